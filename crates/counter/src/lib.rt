@@ -1,0 +1,31 @@
+// Counters: what they mean, the kinds that there are, and the one that settings pick.
+mod counter;
+mod downward;
+mod endless;
+mod meaning;
+mod mode;
+mod once;
+mod periodic;
+mod picked;
+mod steps;
+mod upward;
+
+pub use counter::Counter;
+pub use downward::Downward;
+pub use downward::DownwardCounter;
+pub use endless::Endless;
+pub use endless::EndlessCounter;
+pub use meaning::Crossing;
+pub use meaning::Landing;
+pub use meaning::Meaning;
+pub use meaning::OutsideLimits;
+pub use mode::MainDirection;
+pub use mode::Mode;
+pub use once::Once;
+pub use once::OnceCounter;
+pub use periodic::Periodic;
+pub use periodic::PeriodicCounter;
+pub use picked::PickedCounter;
+pub use picked::PickedCounts;
+pub use upward::Upward;
+pub use upward::UpwardCounter;

@@ -1,0 +1,16 @@
+// The choices that pick a counter.
+
+#[derive(Clone, Copy, PartialEq, Eq, Debug)]
+pub enum Mode {
+    Endless,
+    Once,
+    Periodic,
+}
+
+// The main count direction: none, up or down.
+#[derive(Clone, Copy, PartialEq, Eq, Debug)]
+pub enum MainDirection {
+    Neither,
+    Up,
+    Down,
+}

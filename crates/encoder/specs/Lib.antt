@@ -1,0 +1,4 @@
+pub mod Lines
+pub mod Evaluations
+pub mod Places
+pub mod Picked
