@@ -8,6 +8,8 @@ mod once;
 mod periodic;
 mod picked;
 mod steps;
+#[cfg(test)]
+mod tests;
 mod upward;
 
 pub use counter::Counter;

@@ -36,28 +36,25 @@ impl PickedCounter {
         if end < 2 {
             return None;
         }
-        match (mode, direction) {
-            (Mode::Endless, MainDirection::Neither) => Some(PickedCounter::Endless(Endless::new(
-                load,
-            ))),
-            (Mode::Endless, _) => None,
-            (Mode::Once, MainDirection::Neither) => Some(PickedCounter::Once(Once::new(load))),
-            (Mode::Once, MainDirection::Up) => Some(PickedCounter::Upward(
-                Upward::once(end, load)?,
-            )),
-            (Mode::Once, MainDirection::Down) => Some(PickedCounter::Downward(
+        let picked = match (mode, direction) {
+            (Mode::Endless, MainDirection::Neither) => PickedCounter::Endless(Endless::new(load)),
+            (Mode::Endless, _) => return None,
+            (Mode::Once, MainDirection::Neither) => PickedCounter::Once(Once::new(load)),
+            (Mode::Once, MainDirection::Up) => PickedCounter::Upward(Upward::once(end, load)?),
+            (Mode::Once, MainDirection::Down) => PickedCounter::Downward(
                 Downward::once(end, load)?,
-            )),
-            (Mode::Periodic, MainDirection::Neither) => Some(PickedCounter::Periodic(Periodic::new(
+            ),
+            (Mode::Periodic, MainDirection::Neither) => PickedCounter::Periodic(Periodic::new(
                 load,
-            ))),
-            (Mode::Periodic, MainDirection::Up) => Some(PickedCounter::Upward(
+            )),
+            (Mode::Periodic, MainDirection::Up) => PickedCounter::Upward(
                 Upward::periodic(end, load)?,
-            )),
-            (Mode::Periodic, MainDirection::Down) => Some(PickedCounter::Downward(
-                Downward::periodic(end, load)?,
-            )),
-        }
+            ),
+            (Mode::Periodic, MainDirection::Down) => {
+                PickedCounter::Downward(Downward::periodic(end, load)?)
+            }
+        };
+        Some(picked)
     }
 }
 

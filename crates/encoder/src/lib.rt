@@ -7,6 +7,8 @@ mod picked;
 mod pulse_direction;
 mod quadruple;
 mod single;
+#[cfg(test)]
+mod tests;
 
 pub use double::Double;
 pub use double::DoubleEvaluation;
