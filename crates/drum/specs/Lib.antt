@@ -1,0 +1,3 @@
+pub mod Winding
+pub mod Bill
+pub mod Capture
