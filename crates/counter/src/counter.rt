@@ -4,7 +4,6 @@ ghost use Rattle.std.specs.Results.{isOk};
 ghost use Rattle.counter.specs.declared.meaning.Meaning.{Meaning};
 ghost use Rattle.counter.specs.Counting.{Sound, up, up-crossing, down, down-crossing, put, accepts, offered};
 use crate::meaning::Crossing;
-use crate::meaning::Landing;
 use crate::meaning::Meaning;
 use crate::meaning::OutsideLimits;
 
@@ -15,6 +14,7 @@ pub trait Counter {
 
     law sound: { (c : Self) → Sound (means c) };
 
+    // All that it means, as plain values.
     fn meaning(&self) -> Meaning
         ensures { λ r. ⌜ r ≡ means (now (self .entry)) ⌝ };
 
@@ -36,47 +36,4 @@ pub trait Counter {
     // The reading becomes the load.
     fn put(&mut self)
         ensures { λ _. ⌜ means (now (self .exit)) ≡ put (means (now (self .entry))) ⌝ };
-
-    fn reading(&self) -> i32
-        ensures { λ r. ⌜ r ≡ means (now (self .entry)) .reading ⌝ }
-    {
-        self.meaning().reading
-    }
-
-    fn low(&self) -> i32
-        ensures { λ r. ⌜ r ≡ means (now (self .entry)) .low ⌝ }
-    {
-        self.meaning().low
-    }
-
-    fn high(&self) -> i32
-        ensures { λ r. ⌜ r ≡ means (now (self .entry)) .high ⌝ }
-    {
-        self.meaning().high
-    }
-
-    fn load(&self) -> i32
-        ensures { λ r. ⌜ r ≡ means (now (self .entry)) .load ⌝ }
-    {
-        self.meaning().load
-    }
-
-    fn overflow_landing(&self) -> Landing
-        ensures { λ r. ⌜ r ≡ means (now (self .entry)) .overflow ⌝ }
-    {
-        self.meaning().overflow
-    }
-
-    fn underflow_landing(&self) -> Landing
-        ensures { λ r. ⌜ r ≡ means (now (self .entry)) .underflow ⌝ }
-    {
-        self.meaning().underflow
-    }
-
-    // A crossing stops the count.
-    fn stops(&self) -> bool
-        ensures { λ r. ⌜ r ≡ means (now (self .entry)) .stops ⌝ }
-    {
-        self.meaning().stops
-    }
 }

@@ -28,7 +28,7 @@ fn ups<C: Counter>(counter: &mut C, pulses: u8) -> (i32, Crossing) {
     for _ in 0..pulses {
         crossing = counter.up();
     }
-    (counter.reading(), crossing)
+    (counter.meaning().reading, crossing)
 }
 
 fn downs<C: Counter>(counter: &mut C, pulses: u8) -> (i32, Crossing) {
@@ -36,7 +36,7 @@ fn downs<C: Counter>(counter: &mut C, pulses: u8) -> (i32, Crossing) {
     for _ in 0..pulses {
         crossing = counter.down();
     }
-    (counter.reading(), crossing)
+    (counter.meaning().reading, crossing)
 }
 
 #[test]
@@ -46,13 +46,13 @@ fn endless_goes_round() -> Result<(), Fail> {
     check_eq(ups(&mut counter, 1), (-2147483648, Crossing::Overflow))?;
     check_eq(downs(&mut counter, 1), (2147483647, Crossing::Underflow))?;
     counter.put();
-    check_eq(counter.reading(), 2147483646)
+    check_eq(counter.meaning().reading, 2147483646)
 }
 
 #[test]
 fn once_stops_and_lands_at_the_other_end() -> Result<(), Fail> {
     let mut counter = Once::new(-2147483648);
-    check(counter.stops())?;
+    check(counter.meaning().stops)?;
     check_eq(downs(&mut counter, 1), (2147483647, Crossing::Underflow))?;
     check_eq(ups(&mut counter, 1), (-2147483648, Crossing::Overflow))
 }
@@ -61,7 +61,7 @@ fn once_stops_and_lands_at_the_other_end() -> Result<(), Fail> {
 fn periodic_lands_on_its_load_from_both_ends() -> Result<(), Fail> {
     let mut counter = Periodic::new(2147483647);
     check_eq(counter.set_load(-7), Ok(()))?;
-    check_eq(counter.reading(), 2147483647)?;
+    check_eq(counter.meaning().reading, 2147483647)?;
     check_eq(ups(&mut counter, 1), (-7, Crossing::Overflow))?;
     check_eq(counter.set_load(-2147483648), Ok(()))?;
     counter.put();
@@ -79,7 +79,7 @@ fn upward_from_load_three_to_end_ten() -> Result<(), Fail> {
     check_eq(ups(&mut counter, 2), (5, Crossing::Within))?;
     check_eq(downs(&mut counter, 1), (4, Crossing::Within))?;
     check_eq(counter.set_load(10), Err(OutsideLimits))?;
-    check_eq(counter.load(), 3)?;
+    check_eq(counter.meaning().load, 3)?;
     check_eq(counter.set_load(-2147483648), Ok(()))?;
     counter.put();
     check_eq(downs(&mut counter, 1), (9, Crossing::Underflow))
@@ -90,7 +90,7 @@ fn downward_from_load_five_to_one() -> Result<(), Fail> {
     let Some(mut counter) = Downward::once(8, 5) else {
         return Err(Fail::new("refused"));
     };
-    check(counter.stops())?;
+    check(counter.meaning().stops)?;
     check_eq(downs(&mut counter, 4), (1, Crossing::Within))?;
     check_eq(downs(&mut counter, 1), (5, Crossing::Underflow))?;
     check_eq(ups(&mut counter, 3), (8, Crossing::Within))?;
@@ -104,7 +104,11 @@ fn downward_from_load_five_to_one() -> Result<(), Fail> {
 // The limits of the picked counter, or nothing where there is none.
 fn limits(mode: Mode, direction: MainDirection, end: i32, load: i32) -> Option<(i32, i32, bool)> {
     let counter = PickedCounter::new(mode, direction, end, load)?;
-    Some((counter.low(), counter.high(), counter.stops()))
+    Some((
+        counter.meaning().low,
+        counter.meaning().high,
+        counter.meaning().stops,
+    ))
 }
 
 #[test]

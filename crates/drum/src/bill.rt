@@ -59,8 +59,8 @@ impl<E: Evaluation, C: Counter> Winding<E, C> {
         ensures length { λ r. ⌜ r .length .0 ≡ millimetres (now (wheel .entry)) (C·Counter .means (now (self .entry) .counter) .reading) ⌝ }
         ensures time { λ r. ⌜ r .time .0 ≡ pos (now (self .entry) .tally .elapsed / 1000) ⌝ }
     {
-        let tally = self.tally();
-        let reading = self.reading();
+        let tally = self.tally;
+        let reading = self.counter.meaning().reading;
         Bill {
             tally,
             reading,

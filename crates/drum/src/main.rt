@@ -60,7 +60,7 @@ fn wind_all<E: Evaluation, C: Counter>(
                 Ok(w) => wheel = Some(w),
                 Err(fault) => {
                     eprintln!(rt, "line {number}: {fault}")?;
-                    return Err("no wheel".into());
+                    return Err("the capture does not begin with a wheel".into());
                 }
             }
         } else if let Err(fault) = wind_line(winding, line) {

@@ -60,10 +60,10 @@ impl Tally {
 // Any evaluation and any counter, the pair of the last sample, and the tally so far.
 #[derive(Drop)]
 pub struct Winding<E, C> {
-    evaluation: E,
-    counter: C,
-    pair: Pair,
-    tally: Tally,
+    pub evaluation: E,
+    pub counter: C,
+    pub pair: Pair,
+    pub tally: Tally,
 }
 
 impl<E: Evaluation, C: Counter> Winding<E, C> {
@@ -104,17 +104,5 @@ impl<E: Evaluation, C: Counter> Winding<E, C> {
         }
         self.pair = new;
         Ok(())
-    }
-
-    pub fn tally(&self) -> Tally
-        ensures { λ r. ⌜ r ≡ now (self .entry) .tally ⌝ }
-    {
-        self.tally
-    }
-
-    pub fn reading(&self) -> i32
-        ensures { λ r. ⌜ r ≡ C·Counter .means (now (self .entry) .counter) .reading ⌝ }
-    {
-        self.counter.reading()
     }
 }

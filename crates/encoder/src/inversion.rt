@@ -9,7 +9,7 @@ use crate::evaluation::Rotary;
 use crate::lines::Pair;
 
 // Any evaluation with B inverted before it.
-#[derive(Clone, Copy, PartialEq, Eq, Debug)]
+#[derive(Clone, Copy)]
 pub struct Inverted<E> {
     pub inner: E,
 }
@@ -32,7 +32,7 @@ pub impl<E: Rotary> Rotary for Inverted<E> as InvertedRotary {
 }
 
 // Any evaluation with or without the inversion stage before it.
-#[derive(Clone, Copy, PartialEq, Eq, Debug)]
+#[derive(Clone, Copy)]
 pub enum Staged<E> {
     Direct(E),
     Inverted(Inverted<E>),

@@ -43,12 +43,12 @@ impl Levels {
             return None;
         }
         let pair = Pair {
-            a: byte & 1 != 0,
-            b: byte & 2 != 0,
+            a: byte % 2 == 1,
+            b: byte / 2 % 2 == 1,
         };
         Some(Levels {
             pair,
-            di: byte & 4 != 0,
+            di: byte / 4 % 2 == 1,
         })
     }
 }

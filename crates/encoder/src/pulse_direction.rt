@@ -4,7 +4,7 @@ use crate::evaluation::Answer;
 use crate::evaluation::Evaluation;
 use crate::lines::Pair;
 
-#[derive(Clone, Copy, PartialEq, Eq, Debug)]
+#[derive(Clone, Copy)]
 pub struct PulseDirection;
 
 pub impl Evaluation for PulseDirection as PulseDirectionEvaluation {

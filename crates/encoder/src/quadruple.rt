@@ -6,7 +6,7 @@ use crate::evaluation::Evaluation;
 use crate::evaluation::Rotary;
 use crate::lines::Pair;
 
-#[derive(Clone, Copy, PartialEq, Eq, Debug)]
+#[derive(Clone, Copy)]
 pub struct Quadruple;
 
 pub impl Evaluation for Quadruple as QuadrupleEvaluation {

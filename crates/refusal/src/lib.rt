@@ -76,7 +76,7 @@ impl Reason {
     }
 
     // The reason for a person to read.
-    pub fn words(self) -> &'static str
+    fn words(self) -> &'static str
         ensures { λ r. ⌜ now r ≡ words-of self ⌝ }
     {
         match self {
@@ -113,12 +113,6 @@ impl Refusal {
         ensures { λ r. ⌜ r ≡ refusal reason place ⌝ }
     {
         Refusal { reason, place }
-    }
-
-    pub fn reason(self) -> Reason
-        ensures { λ r. ⌜ r ≡ self .reason ⌝ }
-    {
-        self.reason
     }
 
     pub fn number(self) -> u8
@@ -159,7 +153,7 @@ pub impl fmt::Display for Refusal as RefusalDisplay {
 }
 
 // The same line with the reason in words behind it, for a person to read.
-#[derive(Clone, Copy, PartialEq, Eq, Debug)]
+#[derive(Clone, Copy)]
 pub struct InWords {
     refusal: Refusal,
 }
