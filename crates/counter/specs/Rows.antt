@@ -13,12 +13,8 @@ use Rattle.counter.specs.declared.mode.MainDirection.the-variants.{Neither, Up
 use Rattle.counter.specs.Counting.{LOW, HIGH, fixed, on-load, accepts}
 
 -- between LOW and HIGH, from one end to the other
-abbrev pub endless : ℤ → ℤ → Meaning
-endless reading load = record { reading = reading; low = LOW; high = HIGH; load = load; overflow = fixed LOW; underflow = fixed HIGH; stops = false }
-
--- the same, and it stops at a crossing
-abbrev pub once : ℤ → ℤ → Meaning
-once reading load = record { reading = reading; low = LOW; high = HIGH; load = load; overflow = fixed LOW; underflow = fixed HIGH; stops = true }
+abbrev pub full-range : Bool → ℤ → ℤ → Meaning
+full-range stops reading load = record { reading = reading; low = LOW; high = HIGH; load = load; overflow = fixed LOW; underflow = fixed HIGH; stops = stops }
 
 -- between LOW and HIGH, from either end to the load
 abbrev pub periodic : ℤ → ℤ → Meaning
@@ -45,8 +41,8 @@ downward-fits end load = end-fits end && accepts (downward false end load load) 
 -- the line for a mode and a main count direction, at an end value and a load; a new counter reads its load.
 -- An endless counter has no main count direction
 abbrev pub row : Mode → MainDirection → ℤ → ℤ → Meaning
-row Endless direction end load = endless load load
-row Once Neither end load = once load load
+row Endless direction end load = full-range false load load
+row Once Neither end load = full-range true load load
 row Once Up end load = upward true end load load
 row Once Down end load = downward true end load load
 row Periodic Neither end load = periodic load load

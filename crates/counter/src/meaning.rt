@@ -3,7 +3,7 @@ ghost use mathlib.Core.Path.{_≡_};
 ghost use Rattle.counter.specs.Counting.{fixed, on-load};
 
 // Where a counter lands when it crosses a limit, and whether a new load moves that.
-#[derive(Clone, Copy, PartialEq, Eq, Debug)]
+#[derive(Clone, Copy)]
 pub struct Landing {
     pub at: i32,
     pub follows: bool,
@@ -30,7 +30,7 @@ impl Landing {
 
 // All that a counter means: `low` and `high` are its limits, `overflow` and `underflow` its
 // landings, and `stops` says whether a crossing stops the count.
-#[derive(Clone, Copy, PartialEq, Eq, Debug)]
+#[derive(Clone, Copy)]
 pub struct Meaning {
     pub reading: i32,
     pub low: i32,

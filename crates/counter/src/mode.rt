@@ -1,6 +1,6 @@
 // The choices that pick a counter.
 
-#[derive(Clone, Copy, PartialEq, Eq, Debug)]
+#[derive(Clone, Copy)]
 pub enum Mode {
     Endless,
     Once,
@@ -8,7 +8,7 @@ pub enum Mode {
 }
 
 // The main count direction: none, up or down.
-#[derive(Clone, Copy, PartialEq, Eq, Debug)]
+#[derive(Clone, Copy)]
 pub enum MainDirection {
     Neither,
     Up,

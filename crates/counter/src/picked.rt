@@ -4,15 +4,13 @@ ghost use Rattle.counter.specs.Rows.{row, row-fits, Makes};
 use crate::counter::Counter;
 use crate::downward::Downward;
 use crate::downward::DownwardCounter;
-use crate::endless::Endless;
-use crate::endless::EndlessCounter;
+use crate::full_range::FullRange;
+use crate::full_range::FullRangeCounter;
 use crate::meaning::Crossing;
 use crate::meaning::Meaning;
 use crate::meaning::OutsideLimits;
 use crate::mode::MainDirection;
 use crate::mode::Mode;
-use crate::once::Once;
-use crate::once::OnceCounter;
 use crate::periodic::Periodic;
 use crate::periodic::PeriodicCounter;
 use crate::upward::Upward;
@@ -20,8 +18,7 @@ use crate::upward::UpwardCounter;
 
 #[derive(Clone, Copy)]
 pub enum PickedCounter {
-    Endless(Endless),
-    Once(Once),
+    FullRange(FullRange),
     Periodic(Periodic),
     Upward(Upward),
     Downward(Downward),
@@ -37,9 +34,11 @@ impl PickedCounter {
             return None;
         }
         let picked = match (mode, direction) {
-            (Mode::Endless, MainDirection::Neither) => PickedCounter::Endless(Endless::new(load)),
+            (Mode::Endless, MainDirection::Neither) => PickedCounter::FullRange(FullRange::endless(
+                load,
+            )),
             (Mode::Endless, _) => return None,
-            (Mode::Once, MainDirection::Neither) => PickedCounter::Once(Once::new(load)),
+            (Mode::Once, MainDirection::Neither) => PickedCounter::FullRange(FullRange::once(load)),
             (Mode::Once, MainDirection::Up) => PickedCounter::Upward(Upward::once(end, load)?),
             (Mode::Once, MainDirection::Down) => PickedCounter::Downward(
                 Downward::once(end, load)?,
@@ -61,7 +60,7 @@ impl PickedCounter {
 // Changes the kind that is there, and answers what the change answers.
 macro_rules! in_place {
     ($picked:ident, $c:ident => $change:expr) => {
-        in_place!($picked, $c => $change, Endless Once Periodic Upward Downward)
+        in_place!($picked, $c => $change, FullRange Periodic Upward Downward)
     };
     ($picked:ident, $c:ident => $change:expr, $($kind:ident)*) => {
         match *$picked {
@@ -79,8 +78,7 @@ pub impl Counter for PickedCounter as PickedCounts {
 
     fn meaning(&self) -> Meaning {
         match self {
-            PickedCounter::Endless(c) => c.meaning(),
-            PickedCounter::Once(c) => c.meaning(),
+            PickedCounter::FullRange(c) => c.meaning(),
             PickedCounter::Periodic(c) => c.meaning(),
             PickedCounter::Upward(c) => c.meaning(),
             PickedCounter::Downward(c) => c.meaning(),

@@ -2,8 +2,8 @@
 use crate::counter::Counter;
 use crate::downward::Downward;
 use crate::downward::DownwardCounter;
-use crate::endless::Endless;
-use crate::endless::EndlessCounter;
+use crate::full_range::FullRange;
+use crate::full_range::FullRangeCounter;
 use crate::meaning::Crossing;
 use crate::meaning::CrossingDebug;
 use crate::meaning::CrossingPartialEq;
@@ -12,8 +12,6 @@ use crate::meaning::OutsideLimitsDebug;
 use crate::meaning::OutsideLimitsPartialEq;
 use crate::mode::MainDirection;
 use crate::mode::Mode;
-use crate::once::Once;
-use crate::once::OnceCounter;
 use crate::periodic::Periodic;
 use crate::periodic::PeriodicCounter;
 use crate::picked::PickedCounter;
@@ -41,7 +39,7 @@ fn downs<C: Counter>(counter: &mut C, pulses: u8) -> (i32, Crossing) {
 
 #[test]
 fn endless_goes_round() -> Result<(), Fail> {
-    let mut counter = Endless::new(2147483646);
+    let mut counter = FullRange::endless(2147483646);
     check_eq(ups(&mut counter, 1), (2147483647, Crossing::Within))?;
     check_eq(ups(&mut counter, 1), (-2147483648, Crossing::Overflow))?;
     check_eq(downs(&mut counter, 1), (2147483647, Crossing::Underflow))?;
@@ -51,7 +49,7 @@ fn endless_goes_round() -> Result<(), Fail> {
 
 #[test]
 fn once_stops_and_lands_at_the_other_end() -> Result<(), Fail> {
-    let mut counter = Once::new(-2147483648);
+    let mut counter = FullRange::once(-2147483648);
     check(counter.meaning().stops)?;
     check_eq(downs(&mut counter, 1), (2147483647, Crossing::Underflow))?;
     check_eq(ups(&mut counter, 1), (-2147483648, Crossing::Overflow))

@@ -2,6 +2,8 @@
 mod bill;
 mod capture;
 mod tally;
+#[cfg(test)]
+mod tests;
 mod wheel;
 mod winding;
 
@@ -11,8 +13,8 @@ use capture::bears_data;
 use capture::read_wheel;
 use capture::wind_line;
 use counter::Counter;
-use counter::Endless;
-use counter::EndlessCounter;
+use counter::FullRange;
+use counter::FullRangeCounter;
 use encoder::Evaluation;
 use encoder::Quadruple;
 use encoder::QuadrupleEvaluation;
@@ -28,7 +30,7 @@ fn main(rt: LibcRuntime) -> Result<(), AnyError> {
 }
 
 fn run(rt: &LibcRuntime) -> Result<(), AnyError> {
-    let mut winding = Winding::new(Quadruple, Endless::new(0));
+    let mut winding = Winding::new(Quadruple, FullRange::endless(0));
     let wheel = wind_all(rt, &mut winding)?;
     let bill = winding.bill(&wheel);
     println!(rt, "{bill}")?;

@@ -1,7 +1,8 @@
-// Counts from one end of the 32-bit range to the other, and on.
+// Counts over the whole 32-bit range, and goes on from one end at the other.
 ghost use mathlib.Core.Path.{_≡_};
+ghost use mathlib.Core.Bool.{true, false};
 ghost use Rattle.counter.specs.Counting.{LOW, HIGH, Between};
-ghost use Rattle.counter.specs.Rows.{endless};
+ghost use Rattle.counter.specs.Rows.{full-range};
 use crate::counter::Counter;
 use crate::meaning::Crossing;
 use crate::meaning::Landing;
@@ -9,26 +10,39 @@ use crate::meaning::Meaning;
 use crate::meaning::OutsideLimits;
 
 #[derive(Clone, Copy)]
-pub struct Endless {
+pub struct FullRange {
     reading: i32,
     load: i32,
+    stops: bool,
     ghost readable: { Between LOW reading HIGH },
     ghost loadable: { Between LOW load HIGH },
 }
 
-impl Endless {
-    pub fn new(load: i32) -> Endless
-        ensures { λ r. ⌜ endless (r .reading) (r .load) ≡ endless load load ⌝ }
+impl FullRange {
+    pub fn endless(load: i32) -> FullRange
+        ensures { λ r. ⌜ full-range (r .stops) (r .reading) (r .load) ≡ full-range false load load ⌝ }
     {
-        Endless {
+        FullRange {
             reading: load,
             load,
+            stops: false,
+        }
+    }
+
+    // Stops at a crossing.
+    pub fn once(load: i32) -> FullRange
+        ensures { λ r. ⌜ full-range (r .stops) (r .reading) (r .load) ≡ full-range true load load ⌝ }
+    {
+        FullRange {
+            reading: load,
+            load,
+            stops: true,
         }
     }
 }
 
-pub impl Counter for Endless as EndlessCounter {
-    ghost means = { λ c. endless (c .reading) (c .load) };
+pub impl Counter for FullRange as FullRangeCounter {
+    ghost means = { λ c. full-range (c .stops) (c .reading) (c .load) };
 
     fn meaning(&self) -> Meaning {
         Meaning {
@@ -38,7 +52,7 @@ pub impl Counter for Endless as EndlessCounter {
             load: self.load,
             overflow: Landing::fixed(i32::MIN),
             underflow: Landing::fixed(i32::MAX),
-            stops: false,
+            stops: self.stops,
         }
     }
 
