@@ -36,6 +36,7 @@ at-reading m r = record { reading = r; low = m .low; high = m .high; load = m .l
 abbrev pub risen : ℤ → ℤ → ℤ → ℤ
 risen reading high landing = cond (ltZ reading high) (reading +ℤ pos 1) landing
 
+-- and what it did at the limit
 abbrev pub rise-crossing : ℤ → ℤ → Crossing
 rise-crossing reading high = cond (ltZ reading high) Within Overflow
 
@@ -43,6 +44,7 @@ rise-crossing reading high = cond (ltZ reading high) Within Overflow
 abbrev pub fallen : ℤ → ℤ → ℤ → ℤ
 fallen reading low landing = cond (ltZ low reading) (reading -ℤ pos 1) landing
 
+-- and what it did at the limit
 abbrev pub fall-crossing : ℤ → ℤ → Crossing
 fall-crossing reading low = cond (ltZ low reading) Within Underflow
 

@@ -32,14 +32,14 @@ downward stops end reading load = record { reading = reading; low = pos 1; high 
 abbrev pub end-fits : ℤ → Bool
 end-fits end = leZ (pos 2) end && leZ end HIGH
 
+-- the end value and the load fit an upward or a downward counter
 abbrev pub upward-fits : ℤ → ℤ → Bool
 upward-fits end load = end-fits end && accepts (upward false end load load) load
 
 abbrev pub downward-fits : ℤ → ℤ → Bool
 downward-fits end load = end-fits end && accepts (downward false end load load) load
 
--- the line for a mode and a main count direction, at an end value and a load; a new counter reads its load.
--- An endless counter has no main count direction
+-- the line for a mode and a main count direction, at an end value and a load; a new counter reads its load
 abbrev pub row : Mode → MainDirection → ℤ → ℤ → Meaning
 row Endless direction end load = full-range false load load
 row Once Neither end load = full-range true load load
@@ -49,6 +49,7 @@ row Periodic Neither end load = periodic load load
 row Periodic Up end load = upward false end load load
 row Periodic Down end load = downward false end load load
 
+-- every mode and direction has a line, but for an endless counter with a main count direction
 abbrev pub has-row : Mode → MainDirection → Bool
 has-row Endless Neither = true
 has-row Endless Up = false

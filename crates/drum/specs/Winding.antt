@@ -21,6 +21,7 @@ pub record Sums : Type 0 where
   pub doubles : ℕ
   pub elapsed : ℕ
 
+-- the sums that a tally holds, and those of a new one
 abbrev pub sums-of : Tally → Sums
 sums-of t = record { samples = t .samples; up = t .up; down = t .down; doubles = t .doubles; elapsed = t .elapsed }
 
@@ -52,6 +53,7 @@ pub record State : Type 0 where
   pub pair : Pair
   pub sums : Sums
 
+-- what a winding is to its contracts: its counter only by its meaning
 abbrev pub state-of : {E C : Type 0} → (C → Meaning) → Winding E C → State
 state-of means w = record { counter = means (w .counter); pair = w .pair; sums = sums-of (w .tally) }
 

@@ -7,7 +7,8 @@ use Rattle.encoder.specs.declared.evaluation.Answer.{Answer}
 use Rattle.encoder.specs.declared.evaluation.Answer.the-variants.{Up, Down, Nothing}
 use Rattle.encoder.specs.Lines.{opposite, invert-b}
 
--- what one line did while the other stood at a level, or neither: no line changed, or both did
+-- what happened from one pair to the next: A or B rose or fell while the other line stood at a level, or neither did alone,
+-- since no line changed or both did
 pub data Change : Type 0 where
   a-rises-at-b : Bool → Change
   a-falls-at-b : Bool → Change
@@ -15,7 +16,7 @@ pub data Change : Type 0 where
   b-falls-at-a : Bool → Change
   neither : Change
 
--- by the levels of A before, B before, A after and B after
+-- the change, by the levels of A before, B before, A after and B after
 abbrev change-by : Bool → Bool → Bool → Bool → Change
 change-by false false true false = a-rises-at-b false
 change-by false true true true = a-rises-at-b true
@@ -34,13 +35,15 @@ change-by true false false true = neither
 change-by true true true true = neither
 change-by true true false false = neither
 
+-- the change from an old to a new pair
 abbrev pub change : Pair → Pair → Change
 change old new = change-by (old .a) (old .b) (new .a) (new .b)
 
+-- all that an evaluation means: its answer to each old and new pair
 abbrev pub Answers : Type 0
 Answers = Pair → Pair → Answer
 
--- A rising is up with B low and down with B high
+-- A rising is up with B low and down with B high; all else is nothing
 abbrev pulse-direction-at : Change → Answer
 pulse-direction-at (a-rises-at-b false) = Up
 pulse-direction-at (a-rises-at-b true) = Down
@@ -49,7 +52,7 @@ pulse-direction-at (b-rises-at-a a) = Nothing
 pulse-direction-at (b-falls-at-a a) = Nothing
 pulse-direction-at neither = Nothing
 
--- with B low, A rising is up and A falling is down
+-- with B low, A rising is up and A falling is down; all else is nothing
 abbrev single-at : Change → Answer
 single-at (a-rises-at-b false) = Up
 single-at (a-rises-at-b true) = Nothing
@@ -81,6 +84,7 @@ quadruple-at (b-falls-at-a false) = Up
 quadruple-at (b-falls-at-a true) = Down
 quadruple-at neither = Nothing
 
+-- what the four evaluations answer, by the change alone
 abbrev pub pulse-direction : Answers
 pulse-direction old new = pulse-direction-at (change old new)
 

@@ -19,14 +19,16 @@ opposite p = pair (not (p .a)) (not (p .b))
 abbrev pub invert-b : Pair → Pair
 invert-b p = pair (p .a) (not (p .b))
 
--- the levels differ
+-- two levels differ
 abbrev differ : Bool → Bool → Bool
 differ true y = not y
 differ false y = y
 
+-- both lines differ
 abbrev pub both-differ : Pair → Pair → Bool
 both-differ p q = differ (p .a) (q .a) && differ (p .b) (q .b)
 
+-- the lowest bit is set
 abbrev odd : ℕ → Bool
 odd n = eqb (n % 2) 1
 

@@ -9,6 +9,7 @@ use Rattle.encoder.specs.declared.picked.PickedEvaluation.the-variants.{PulseD
 use Rattle.encoder.specs.Evaluations.{Answers, pulse-direction, single, double, quadruple, inverted}
 use Rattle.encoder.specs.Places.{inverted-height}
 
+-- each case answers as its evaluation
 abbrev pub picked-answers : PickedEvaluation → Answers
 picked-answers PulseDirection = pulse-direction
 picked-answers Single = single
@@ -20,6 +21,7 @@ abbrev pub with-stage : {E : Type 0} → Bool → E → Staged E
 with-stage true e = staged.Inverted (record { inner = e })
 with-stage false e = staged.Direct e
 
+-- what it answers, and its height where the evaluation has one
 abbrev pub staged-answers : {E : Type 0} → (E → Answers) → Staged E → Answers
 staged-answers answers (staged.Direct e) = answers e
 staged-answers answers (staged.Inverted s) = inverted (answers (s .inner))

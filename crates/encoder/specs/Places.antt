@@ -24,7 +24,7 @@ pub record StepLaw (answers : Answers) (height : ℤ → ℤ) : Type 0 where
   pub forth : (p : ℤ) → worth (answers (pair-at p) (pair-at (p +ℤ pos 1))) ≡ height (p +ℤ pos 1) -ℤ height p
   pub back : (p : ℤ) → worth (answers (pair-at (p +ℤ pos 1)) (pair-at p)) ≡ height p -ℤ height (p +ℤ pos 1)
 
--- heights, rounded down
+-- the heights of the three rotary evaluations, rounded down
 abbrev pub single-height : ℤ → ℤ
 single-height p = divEuclid (p +ℤ pos 3) (pos 4)
 

@@ -73,6 +73,7 @@ words-of TimeTooLong = codes "the sample's time is above 1,000,000 microseconds"
 words-of LevelsOutOfRange = codes "the sample's level byte is above 7"
 words-of ImageTooShort = codes "fewer than ten bytes of the image are left from the place on"
 
+-- a refusal has a reason and a place
 abbrev pub refusal : Reason → ℕ → Refusal
 refusal reason place = record { reason = reason; place = place }
 
