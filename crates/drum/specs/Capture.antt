@@ -4,6 +4,7 @@ use mathlib.Core.Logic.{_⊎_}
 use mathlib.Core.Bool.{Bool, true, false, not, cond}
 use mathlib.Core.List.{List, [], _∷_, _++_}
 use Prim.Native.Nat.{ℕ, _*_, _^_, _<_}
+use lib.Chars.{codes}
 use lib.Dec.{eqb, ltb}
 use Rattle.std.specs.declared.option.Option.{Option}
 use Rattle.std.specs.declared.option.Option.the-variants.{None, Some}
@@ -18,6 +19,14 @@ use Rattle.encoder.specs.Evaluations.{Answers}
 use Rattle.drum.specs.declared.capture.LineFault.{LineFault}
 use Rattle.drum.specs.declared.capture.LineFault.the-variants.{NotTwoNumbers, ZeroInWheel, TimeTooLong, LevelsOutOfRange, NoRoom}
 use Rattle.drum.specs.Winding.{Sums, State, has-room, wound}
+
+-- what is wrong with a line, in plain words
+abbrev pub fault-words : LineFault → List ℕ
+fault-words NotTwoNumbers = codes "not two decimal numbers with one blank between"
+fault-words ZeroInWheel = codes "the circumference and the lines per turn must be above 0"
+fault-words TimeTooLong = codes "the time is above 1,000,000 microseconds"
+fault-words LevelsOutOfRange = codes "the level byte is above 7"
+fault-words NoRoom = codes "the tally has no room for another sample"
 
 -- an empty line bears no data, nor does one that begins with `#`
 abbrev pub bears-data : List ℕ → Bool

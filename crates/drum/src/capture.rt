@@ -1,9 +1,10 @@
 // A capture of the encoder's lines as text: the wheel on the first line, then one sample a line.
 ghost use mathlib.Core.Path.{_≡_};
 ghost use Prim.Native.Nat.{ℕ};
+ghost use Rattle.std.specs.declared.option.Option.the-variants.{Some};
 ghost use Rattle.std.specs.Results.{Cases};
 ghost use Rattle.drum.specs.declared.capture.LineFault.the-variants.{NotTwoNumbers, NoRoom};
-ghost use Rattle.drum.specs.Capture.{bears-data, TwoNumbers, sample-of, Answered, Samples, Wheels, WindsLine};
+ghost use Rattle.drum.specs.Capture.{fault-words, bears-data, TwoNumbers, sample-of, Answered, Samples, Wheels, WindsLine};
 ghost use Rattle.drum.specs.Winding.{state-of};
 use crate::tally::TallyFull;
 use crate::wheel::Wheel;
@@ -32,15 +33,25 @@ pub impl From<TallyFull> for LineFault as LineFaultFromTallyFull {
     }
 }
 
-pub impl fmt::Display for LineFault as LineFaultDisplay {
-    fn fmt<W: fmt::Write>(&self, f: &mut fmt::Formatter<W>) -> fmt::Result {
-        let words = match self {
+impl LineFault {
+    fn words(self) -> &'static str
+        ensures { λ r. ⌜ now r ≡ fault-words self ⌝ }
+    {
+        match self {
             LineFault::NotTwoNumbers => "not two decimal numbers with one blank between",
             LineFault::ZeroInWheel => "the circumference and the lines per turn must be above 0",
             LineFault::TimeTooLong => "the time is above 1,000,000 microseconds",
             LineFault::LevelsOutOfRange => "the level byte is above 7",
             LineFault::NoRoom => "the tally has no room for another sample",
-        };
+        }
+    }
+}
+
+pub impl fmt::Display for LineFault as LineFaultDisplay {
+    ghost shown = { λ fault. Some (fault-words fault) };
+
+    fn fmt<W: fmt::Write>(&self, f: &mut fmt::Formatter<W>) -> fmt::Result {
+        let words = self.words();
         write!(f, "{words}")
     }
 }

@@ -5,7 +5,6 @@ use crate::bill::ThousandthsDisplay;
 use crate::bill::ThousandthsPartialEq;
 use crate::capture::LineFault;
 use crate::capture::LineFaultDebug;
-use crate::capture::LineFaultDisplay;
 use crate::capture::LineFaultPartialEq;
 use crate::capture::bears_data;
 use crate::capture::read_wheel;
@@ -48,33 +47,6 @@ fn thousandths_as_text(rt: LibcRuntime) -> Result<(), Fail> {
     ];
     for (n, text) in texts {
         check_eq(Thousandths(n).to_string(rt.alloc())?.as_str(), text)?;
-    }
-    Ok(())
-}
-
-#[test]
-fn faults_in_words(rt: LibcRuntime) -> Result<(), Fail> {
-    let faults = [
-        (
-            LineFault::NotTwoNumbers,
-            "not two decimal numbers with one blank between",
-        ),
-        (
-            LineFault::ZeroInWheel,
-            "the circumference and the lines per turn must be above 0",
-        ),
-        (
-            LineFault::TimeTooLong,
-            "the time is above 1,000,000 microseconds",
-        ),
-        (LineFault::LevelsOutOfRange, "the level byte is above 7"),
-        (
-            LineFault::NoRoom,
-            "the tally has no room for another sample",
-        ),
-    ];
-    for (fault, words) in faults {
-        check_eq(fault.to_string(rt.alloc())?.as_str(), words)?;
     }
     Ok(())
 }
