@@ -1,17 +1,4 @@
 // Winds a drum of cable from a capture of the encoder's lines, and prints the bill.
-mod bill;
-mod capture;
-mod tally;
-#[cfg(test)]
-mod tests;
-mod wheel;
-mod winding;
-
-use bill::BillDisplay;
-use capture::LineFaultDisplay;
-use capture::bears_data;
-use capture::read_wheel;
-use capture::wind_line;
 use counter::Counter;
 use counter::FullRange;
 use counter::FullRangeCounter;
@@ -22,8 +9,13 @@ use std::error::AnyError;
 use std::io::BufRead;
 use std::io::BufReader;
 use std::io::ErrorKind;
-use wheel::Wheel;
+use winding::BillDisplay;
+use winding::LineFaultDisplay;
+use winding::Wheel;
 use winding::Winding;
+use winding::bears_data;
+use winding::read_wheel;
+use winding::wind_line;
 
 fn main(rt: LibcRuntime) -> Result<(), AnyError> {
     rt.report(run(&rt))

@@ -1,6 +1,6 @@
 use mathlib.Core.Path.{ap, sym}
-use Rattle.drum.specs.Capture.{fault-words}
-use Rattle.drum.proofs.capture.LineFault.words.Needs as need
+use Rattle.winding.specs.Capture.{fault-words}
+use Rattle.winding.proofs.capture.LineFault.words.Needs as need
 
 pub returns-in-NotTwoNumbers : need.returns-in-NotTwoNumbers
 returns-in-NotTwoNumbers c = ap fault-words (sym (c .in-NotTwoNumbers .is))

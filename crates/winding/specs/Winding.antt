@@ -9,9 +9,9 @@ use Rattle.encoder.specs.declared.evaluation.Answer.{Answer}
 use Rattle.encoder.specs.declared.evaluation.Answer.the-variants.{Up, Down, Nothing}
 use Rattle.encoder.specs.Lines.{both-differ}
 use Rattle.encoder.specs.Evaluations.{Answers}
-use Rattle.drum.specs.declared.tally.Tally.{Tally}
-use Rattle.drum.specs.declared.winding.Sample.{Sample}
-use Rattle.drum.specs.declared.winding.Winding.{Winding}
+use Rattle.winding.specs.declared.tally.Tally.{Tally}
+use Rattle.winding.specs.declared.winding.Sample.{Sample}
+use Rattle.winding.specs.declared.winding.Winding.{Winding}
 
 -- the tally's five sums
 pub record Sums : Type 0 where

@@ -1,10 +1,10 @@
 // The bill of a winding.
 ghost use mathlib.Core.Path.{_≡_};
 ghost use Prim.Native.Nat.{_/_};
-ghost use lib.IntN.{pos};
+ghost use lib.IntN.{pos, _*ℤ_};
 ghost use Rattle.std.specs.declared.option.Option.the-variants.{Some};
-ghost use Rattle.drum.specs.Bill.{millimetres, thousandths-text, tally-text, bill-text};
-ghost use Rattle.drum.specs.Winding.{sums-of};
+ghost use Rattle.winding.specs.Bill.{millimetres, thousandths-text, tally-text, bill-text};
+ghost use Rattle.winding.specs.Winding.{sums-of};
 use crate::tally::Tally;
 use crate::wheel::Wheel;
 use crate::winding::Winding;
@@ -31,13 +31,19 @@ pub impl fmt::Display for Thousandths as ThousandthsDisplay {
 }
 
 impl Wheel {
+    // A reading times the circumference, in micrometres. It fits 64 bits at any reading.
+    fn turned(&self, reading: i32) -> i64
+        ensures { λ r. ⌜ r ≡ reading *ℤ pos (now (self .entry) .circumference) ⌝ }
+    {
+        i64::from(reading) * i64::from(self.circumference)
+    }
+
     // The length that a reading stands for, rounded down to the millimetre.
     pub fn length(&self, reading: i32) -> Thousandths
         ensures { λ r. ⌜ r .0 ≡ millimetres (now (self .entry)) reading ⌝ }
     {
-        let micrometres = i64::from(reading) * i64::from(self.circumference);
         let per_millimetre = 4000 * i64::from(self.lines);
-        Thousandths(micrometres.div_euclid(per_millimetre))
+        Thousandths(self.turned(reading).div_euclid(per_millimetre))
     }
 }
 

@@ -3,7 +3,7 @@ ghost use mathlib.Core.Path.{_≡_};
 ghost use mathlib.Core.Bool.{cond, false};
 ghost use Rattle.std.specs.Results.{isOk};
 ghost use Rattle.encoder.specs.Lines.{pair};
-ghost use Rattle.drum.specs.Winding.{sums-of, no-sums, noted, has-room, state-of, wound};
+ghost use Rattle.winding.specs.Winding.{sums-of, no-sums, noted, has-room, state-of, wound};
 use crate::tally::Tally;
 use crate::tally::TallyFull;
 use counter::Counter;

@@ -13,12 +13,12 @@ use Rattle.std.specs.declared.result.Result.the-variants.{Ok, Err}
 use Rattle.std.specs.Reads.{Numeral, value, afterPlus}
 use Rattle.encoder.specs.declared.lines.Levels.{Levels}
 use Rattle.encoder.specs.Lines.{levels-of}
-use Rattle.drum.specs.declared.wheel.Wheel.{Wheel}
-use Rattle.drum.specs.declared.winding.Sample.{Sample}
+use Rattle.winding.specs.declared.wheel.Wheel.{Wheel}
+use Rattle.winding.specs.declared.winding.Sample.{Sample}
 use Rattle.encoder.specs.Evaluations.{Answers}
-use Rattle.drum.specs.declared.capture.LineFault.{LineFault}
-use Rattle.drum.specs.declared.capture.LineFault.the-variants.{NotTwoNumbers, ZeroInWheel, TimeTooLong, LevelsOutOfRange, NoRoom}
-use Rattle.drum.specs.Winding.{Sums, State, has-room, wound}
+use Rattle.winding.specs.declared.capture.LineFault.{LineFault}
+use Rattle.winding.specs.declared.capture.LineFault.the-variants.{NotTwoNumbers, ZeroInWheel, TimeTooLong, LevelsOutOfRange, NoRoom}
+use Rattle.winding.specs.Winding.{Sums, State, has-room, wound}
 
 -- what is wrong with a line, in plain words
 abbrev pub fault-words : LineFault → List ℕ

@@ -3,8 +3,8 @@ use lib.Dec.{lit<}
 use Rattle.std.specs.declared.option.Option.the-variants.{None, Some}
 use Rattle.std.proofs.shelf.Numerals.{ok-from-converted}
 use Rattle.std.proofs.shelf.Patterns.{split-parts}
-use Rattle.drum.proofs.Numbers.{needs-blank, at-first-blank}
-use Rattle.drum.proofs.capture.two_numbers.Needs as need
+use Rattle.winding.proofs.Numbers.{needs-blank, at-first-blank}
+use Rattle.winding.proofs.capture.two_numbers.Needs as need
 
 pub returns : need.returns
 returns c =

@@ -13,7 +13,7 @@ use Rattle.std.specs.declared.option.Option.the-variants.{Some}
 use Rattle.std.specs.Reads.{Digits, Numeral, afterPlus}
 use Rattle.std.proofs.shelf.Numerals.{digit-at}
 use Rattle.std.proofs.shelf.Patterns.{SplitAt, split-after}
-use Rattle.drum.specs.Capture.{Number, TwoNumbers}
+use Rattle.winding.specs.Capture.{Number, TwoNumbers}
 
 -- a number holds no blank
 no-blank-by : (plus : Bool) (c : ℕ) (cs : List ℕ) → eqb c 43 ≡ plus → Digits 10 (drop (cond plus 1 0) (c ∷ cs)) → (i : ℕ) → i < length (c ∷ cs) → getD (c ∷ cs) i 0 ≡ 32 → ⊥

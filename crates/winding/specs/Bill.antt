@@ -7,8 +7,8 @@ use lib.IntN.{ℤ, pos, negsuc, natAbs, _*ℤ_}
 use lib.Signed.{ltZ}
 use Rattle.std.specs.Numbers.{divEuclid}
 use Rattle.std.specs.Written.{decimal, signed}
-use Rattle.drum.specs.declared.wheel.Wheel.{Wheel}
-use Rattle.drum.specs.Winding.{Sums}
+use Rattle.winding.specs.declared.wheel.Wheel.{Wheel}
+use Rattle.winding.specs.Winding.{Sums}
 
 -- millimetres, rounded down: a turn of the wheel is its circumference in micrometres, and quadruple
 -- evaluation counts four pulses a line
