@@ -1,4 +1,6 @@
 // Counters: what they mean, the kinds that there are, and the one that settings pick.
+#![tactic(auto)]
+
 mod counter;
 mod downward;
 mod full_range;

@@ -1,8 +1,10 @@
 // Winds a drum of cable from a capture of the encoder's lines, and prints the bill.
+#![tactic(auto)]
+
 use anyhow::anyhow;
 use counter::PickedCounter;
 use encoder::{PickedEvaluation, Staged};
-use hex::{HexFault, from_hex};
+use hex_digits::{HexFault, from_hex};
 use settings::Parameters;
 use std::io::{BufRead, BufReader, ErrorKind};
 use winding::{Wheel, Winding, bears_data, read_wheel, record_digits, wind_line};

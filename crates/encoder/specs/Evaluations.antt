@@ -104,6 +104,11 @@ pub record Silent (answers : Answers) : Type 0 where
   pub unchanged : (p : Pair) → answers p p ≡ Nothing
   pub both_changed : (p : Pair) → answers p (opposite p) ≡ Nothing
 
+-- so does the stage over it
+pub inverted_silent : (answers : Answers) → Silent answers → Silent (inverted answers)
+inverted_silent answers silent =
+    record { unchanged = λ p. silent.unchanged (invert_b p); both_changed = λ p. silent.both_changed (invert_b p) }
+
 -- what an answer is worth in pulses
 abbrev pub worth : Answer → ℤ
 worth Up = pos 1

@@ -2,4 +2,3 @@ pub mod Lines
 pub mod Evaluations
 pub mod Places
 pub mod Picked
-pub mod Mirror

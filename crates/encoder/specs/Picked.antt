@@ -1,11 +1,10 @@
 -- What the evaluations that settings pick answer, with and without the inversion stage.
 use Rattle.std.specs.Prelude.{Bool, true, false, ℤ}
-use Rattle.encoder.specs.declared.inversion.Inverted.{Inverted}
 use Rattle.encoder.specs.declared.inversion.Staged.{Staged}
 use Rattle.encoder.specs.declared.inversion.Staged.TheVariants as staged
 use Rattle.encoder.specs.declared.picked.PickedEvaluation.{PickedEvaluation}
 use Rattle.encoder.specs.declared.picked.PickedEvaluation.TheVariants.{PulseDirection, Single, Double, Quadruple}
-use Rattle.encoder.specs.Evaluations.{Answers, pulse_direction, single, double, quadruple, inverted}
+use Rattle.encoder.specs.Evaluations.{Answers, Silent, pulse_direction, single, double, quadruple, inverted, inverted_silent}
 use Rattle.encoder.specs.Places.{inverted_height}
 
 -- each case answers as its evaluation
@@ -24,6 +23,11 @@ with_stage false e = staged.Direct e
 abbrev pub staged_answers : {E : Type 0} → (E → Answers) → Staged E → Answers
 staged_answers answers (staged.Direct e) = answers e
 staged_answers answers (staged.Inverted s) = inverted (answers s.inner)
+
+-- with the stage or without, it is silent where the evaluation is
+pub staged_silent : {E : Type 0} (answers : E → Answers) → ((e : E) → Silent (answers e)) → (s : Staged E) → Silent (staged_answers answers s)
+staged_silent answers silent (staged.Direct e) = silent e
+staged_silent answers silent (staged.Inverted s) = inverted_silent (answers s.inner) (silent s.inner)
 
 abbrev pub staged_height : {E : Type 0} → (E → ℤ → ℤ) → Staged E → ℤ → ℤ
 staged_height height (staged.Direct e) = height e

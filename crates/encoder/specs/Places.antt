@@ -1,5 +1,5 @@
 -- The places of a shaft, and what makes an evaluation rotary.
-use Rattle.std.specs.Prelude.{◌≡◌, ℕ, zero, suc, true, false, ℤ, pos, negsuc, ◌+ℤ◌, ◌-ℤ◌, unsigned_abs}
+use Rattle.std.specs.Prelude.{◌≡◌, ℕ, zero, suc, true, false, ℤ, pos, ◌+ℤ◌, ◌-ℤ◌, unsigned_abs}
 use Rattle.std.specs.Int.{int_div_euclid, int_rem_euclid}
 use Rattle.encoder.specs.declared.lines.Pair.{Pair}
 use Rattle.encoder.specs.Lines.{pair}

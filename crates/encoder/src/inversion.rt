@@ -1,9 +1,8 @@
 // The stage that inverts B before an evaluation sees it.
 ghost use Rattle.std.specs.Prelude.{◌≡◌};
-ghost use Rattle.encoder.specs.Evaluations.{inverted};
+ghost use Rattle.encoder.specs.Evaluations.{inverted, inverted_silent};
 ghost use Rattle.encoder.specs.Places.{inverted_height};
-ghost use Rattle.encoder.specs.Picked.{with_stage, staged_answers, staged_height};
-ghost use Rattle.encoder.specs.Mirror.{inverted_silent};
+ghost use Rattle.encoder.specs.Picked.{with_stage, staged_answers, staged_silent, staged_height};
 
 use crate::evaluation::{Answer, Evaluation, Rotary};
 use crate::lines::Pair;
@@ -54,6 +53,8 @@ impl<E> Staged<E> {
 
 impl<E: Evaluation> Evaluation for Staged<E> {
     ghost answers = { staged_answers E.Evaluation.answers };
+
+    ghost silent = { staged_silent E.Evaluation.answers E.Evaluation.silent };
 
     fn evaluate(&self, old: Pair, new: Pair) -> Answer {
         match self {

@@ -1,4 +1,6 @@
 // An encoder's lines become pulses.
+#![tactic(auto)]
+
 mod double;
 mod evaluation;
 mod inversion;

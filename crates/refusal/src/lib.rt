@@ -1,4 +1,6 @@
 // A numbered refusal: for what reason a call was refused, by which layer, and at which place.
+#![tactic(auto)]
+
 ghost use Rattle.std.specs.Prelude.{◌≡◌, ℕ, Some};
 ghost use Rattle.refusal.specs.Refusals.{number_of, layer_of, layer_name, words_of, refusal, refused_line, explained_line};
 

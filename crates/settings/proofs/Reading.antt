@@ -8,7 +8,7 @@ use Rattle.refusal.specs.declared.Reason.TheVariants.{UnexpectedTag, WrongLength
 use Rattle.refusal.specs.Refusals.{refusal}
 use Rattle.settings.specs.declared.field.Field.{Field}
 use Rattle.settings.specs.Fields.{tag_of, size_of, place_of, written}
-use Rattle.settings.specs.Rule.{◌and-then◌, Taken, behind, cut, valued}
+use Rattle.settings.specs.Rule.{◌and_then◌, Taken, behind, cut, valued}
 use Rattle.settings.specs.Record.{field, ending}
 use Rattle.settings.proofs.Values.{Byte}
 

@@ -15,7 +15,7 @@ use Rattle.counter.specs.Counting.{LOW, HIGH, accepts}
 use Rattle.counter.specs.Rows.{row, has_row, end_fits, row_fits}
 use Rattle.settings.specs.Values.{duration_fits, number_written, modes, directions, evaluations, flags, di_functions, gate_functions, synchronisations, mode_code, direction_code, evaluation_code, flag_code, di_code, gate_code, synchronisation_code, output_written, mode_read, direction_read, end_read, number_read, evaluation_read, flag_read, di_read, gate_read, synchronisation_read, output_read}
 use Rattle.settings.specs.Record.{choices_read, record_of, verdict, Gives, AcceptsOwn}
-use Rattle.settings.specs.Rule.{◌and-then◌}
+use Rattle.settings.specs.Rule.{◌and_then◌}
 use Rattle.settings.specs.Checks.{Finding, first_wrong, within, ranges, conflicts, first_out_of_range, first_conflict, unless, ranged, checked, agreed, keeps}
 use Rattle.settings.specs.declared.field.Field.TheVariants as field
 use Rattle.settings.proofs.Reading.{Owns, field_owns, ended}

@@ -13,7 +13,7 @@ use Rattle.settings.specs.declared.choices.Choices.{Choices}
 use Rattle.settings.specs.declared.field.Field.{Field}
 use Rattle.settings.specs.declared.field.Field.TheVariants as field
 use Rattle.settings.specs.Fields.{place_of}
-use Rattle.settings.specs.Rule.{◌and-then◌}
+use Rattle.settings.specs.Rule.{◌and_then◌}
 use Rattle.settings.specs.Values.{duration_fits}
 
 -- a field, and whether something is wrong with it

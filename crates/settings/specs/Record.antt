@@ -7,7 +7,7 @@ use Rattle.settings.specs.declared.choices.Choices.{Choices}
 use Rattle.settings.specs.declared.field.Field.{Field}
 use Rattle.settings.specs.declared.field.Field.TheVariants.{Mode, Direction, End, Load, Evaluation, BInverted, DiFunction, GateInputInverted, Gate, Synchronisation, Output1, Output2}
 use Rattle.settings.specs.Fields.{record_size, written}
-use Rattle.settings.specs.Rule.{◌and-then◌, taken}
+use Rattle.settings.specs.Rule.{◌and_then◌, taken}
 use Rattle.settings.specs.Values.{mode_read, direction_read, end_read, number_read, evaluation_read, flag_read, di_read, gate_read, synchronisation_read, output_read, mode_code, direction_code, number_written, evaluation_code, flag_code, di_code, gate_code, synchronisation_code, output_written}
 use Rattle.settings.specs.Checks.{agreed}
 

@@ -7,9 +7,9 @@ use Rattle.refusal.specs.Refusals.{refusal}
 use Rattle.settings.specs.declared.field.Field.{Field}
 use Rattle.settings.specs.Fields.{tag_of, size_of, place_of}
 
-infixl 10 ◌and-then◌
+infixl 10 ◌and_then◌
 -- with what was read reading goes on, and a refusal stays
-abbrev pub ◌and-then◌ : {A B : Type 0} → Result A Refusal → (A → Result B Refusal) → Result B Refusal
+abbrev pub ◌and_then◌ : {A B : Type 0} → Result A Refusal → (A → Result B Refusal) → Result B Refusal
 Err e and_then next = Err e
 Ok a and_then next = next a
 

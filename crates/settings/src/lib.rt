@@ -1,4 +1,6 @@
 // The parameters of a channel, and their record: the reader and the writer.
+#![tactic(auto)]
+
 mod checks;
 mod choices;
 mod field;

@@ -1,4 +1,6 @@
 // A drum of cable is wound: lines of a capture become samples, samples a reading, and the reading a bill.
+#![tactic(auto)]
+
 mod bill;
 mod capture;
 mod tally;

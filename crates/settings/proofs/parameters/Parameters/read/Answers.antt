@@ -3,7 +3,7 @@ use Rattle.std.specs.List.{AllByRecursion as All}
 use Rattle.std.proofs.ByRecursion.{All-from_get_or}
 use Rattle.refusal.specs.declared.Refusal.{Refusal}
 use Rattle.settings.specs.declared.parameters.Parameters.{Parameters}
-use Rattle.settings.specs.Rule.{◌and-then◌}
+use Rattle.settings.specs.Rule.{◌and_then◌}
 use Rattle.settings.specs.Checks.{agreed}
 use Rattle.settings.specs.Record.{choices_read, verdict, Gives, AcceptsOwn}
 use Rattle.settings.proofs.Values.{Byte}

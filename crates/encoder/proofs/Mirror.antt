@@ -3,12 +3,8 @@ use Rattle.std.specs.Prelude.{◌≡◌, ℤ, pos, ◌+ℤ◌, ◌-ℤ◌}
 use Rattle.std.proofs.Common.{arith, rules}
 use Rattle.std.proofs.lemmas.Int.{ints}
 use Rattle.encoder.specs.Lines.{invert_b}
-use Rattle.encoder.specs.Evaluations.{Answers, Silent, inverted}
+use Rattle.encoder.specs.Evaluations.{Answers, inverted}
 use Rattle.encoder.specs.Places.{pair_at, StepLaw, inverted_height}
-
-pub inverted_silent : (answers : Answers) → Silent answers → Silent (inverted answers)
-inverted_silent answers silent =
-    record { unchanged = λ p. silent.unchanged (invert_b p); both_changed = λ p. silent.both_changed (invert_b p) }
 
 invert_at : (p : ℤ) → invert_b (pair_at p) ≡ pair_at (pos 3 -ℤ p)
 invert_at p = search rules

@@ -1,7 +1,7 @@
 -- Bytes as hexadecimal digits.
 use Rattle.std.specs.Prelude.{◌≡◌, ℕ, ◌+◌, ◌-◌, ◌*◌, ◌≤◌, cond, ◌&&◌, List, [], ◌∷◌, length, Some, None, Ok, Err, Option, Result, nat_le}
-use Rattle.hex.specs.declared.HexFault.{HexFault}
-use Rattle.hex.specs.declared.HexFault.TheVariants.{NotHex, NoMemory}
+use Rattle.hex_digits.specs.declared.HexFault.{HexFault}
+use Rattle.hex_digits.specs.declared.HexFault.TheVariants.{NotHex, NoMemory}
 
 -- the value of a digit by its character: `0` to `9`, `a` to `f`, `A` to `F`
 abbrev pub digit_value : ℕ → Option ℕ

@@ -1,7 +1,7 @@
 use Rattle.std.proofs.Common.{◌≡◌, ◌≤◌, length, vec_items}
-use Rattle.hex.specs.Hex.{decoded}
-use Rattle.hex.proofs.Digits.{before}
-use Rattle.hex.proofs.from_hex.Given as goal
+use Rattle.hex_digits.specs.Hex.{decoded}
+use Rattle.hex_digits.proofs.Digits.{before}
+use Rattle.hex_digits.proofs.from_hex.Given as goal
 
 -- the bytes so far, before those of the digits that are left, are those of all digits
 abbrev pub invariant-loop-rest : goal.invariant-loop-rest

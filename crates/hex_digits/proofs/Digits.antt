@@ -1,7 +1,7 @@
 -- Bytes that were read, before those that are left to read.
 use Rattle.std.proofs.Common.{◌≡◌, ℕ, ◌-◌, ◌≤◌, List, [], ◌∷◌, ◌++◌, length, get_or, take, drop, Some, None, Option, sym, refl, ap, ◌∙◌, append_assoc, arith}
 use Rattle.std.proofs.lemmas.List.{take_rest}
-use Rattle.hex.specs.Hex.{digit_value, byte_value, joined, decoded}
+use Rattle.hex_digits.specs.Hex.{digit_value, byte_value, joined, decoded}
 
 -- some bytes before others
 abbrev pub before : List ℕ → Option (List ℕ) → Option (List ℕ)

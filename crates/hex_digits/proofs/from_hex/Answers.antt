@@ -1,7 +1,7 @@
 use Rattle.std.proofs.Common.{◌≡◌, ℕ, ◌-◌, List, [], ◌∷◌, ◌++◌, length, get_or, take, drop, Some, vec_items, sym, ap, ◌∙◌, rules}
-use Rattle.hex.specs.Hex.{digit_value, byte_value, decoded}
-use Rattle.hex.proofs.Digits.{before, step}
-use Rattle.hex.proofs.from_hex.Goals as goal
+use Rattle.hex_digits.specs.Hex.{digit_value, byte_value, decoded}
+use Rattle.hex_digits.proofs.Digits.{before, step}
+use Rattle.hex_digits.proofs.from_hex.Goals as goal
 
 pub loop-rest-preserved : goal.loop-rest-preserved
 loop-rest-preserved c =

@@ -1,6 +1,8 @@
 // Bytes written as text: two hexadecimal digits for each, the higher first.
+#![tactic(auto)]
+
 ghost use Rattle.std.specs.Prelude.{◌≡◌, vec_items};
-ghost use Rattle.hex.specs.Hex.{digit_value, byte_value, Reads};
+ghost use Rattle.hex_digits.specs.Hex.{digit_value, byte_value, Reads};
 
 use std::alloc::Global;
 
