@@ -9,13 +9,12 @@ use crate::pulse_direction::PulseDirection;
 use crate::quadruple::Quadruple;
 use crate::single::Single;
 
-// The numbers are the codes by which settings pick an evaluation.
 #[derive(Clone, Copy, PartialEq, Eq, Debug)]
 pub enum PickedEvaluation {
-    PulseDirection = 0,
-    Single = 1,
-    Double = 2,
-    Quadruple = 4,
+    PulseDirection,
+    Single,
+    Double,
+    Quadruple,
 }
 
 impl Evaluation for PickedEvaluation {

@@ -77,7 +77,13 @@ impl Value for PickedEvaluation {
     }
 
     fn write(&self, part: &mut [u8]) {
-        part.copy_from_slice(&[*self as u8]);
+        let code = match self {
+            PickedEvaluation::PulseDirection => 0,
+            PickedEvaluation::Single => 1,
+            PickedEvaluation::Double => 2,
+            PickedEvaluation::Quadruple => 4,
+        };
+        part.copy_from_slice(&[code]);
     }
 }
 

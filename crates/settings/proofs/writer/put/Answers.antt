@@ -7,8 +7,8 @@ use Rattle.settings.proofs.writer.put.Goals as goal
 pub returns : goal.returns
 returns g c =
     let before : List ℕ = c.args.buffer.now in
-    let value : List ℕ = g.V-as-Value.writes c.args.value.now in
+    let value : List ℕ = g.V.Value.writes c.args.value.now in
     let place : c.place.result ≡ place_of c.args.field = c.place.ensures in
-    c.put-value.ensures
-    ∙ (ap (overlaid (c.place.result + 3) value) c.put-header.ensures
+    c.put_value.ensures
+    ∙ (ap (overlaid (c.place.result + 3) value) c.put_header.ensures
     ∙ put_twice (place_of c.args.field) (c.place.result + 3) before (written c.args.field []) value (omega arith) (omega arith))
