@@ -2,35 +2,29 @@
 #![tactic(auto)]
 
 use anyhow::anyhow;
-use counter::PickedCounter;
-use encoder::{PickedEvaluation, Staged};
-use hex_digits::{HexFault, from_hex};
-use settings::Parameters;
+use counter::{Counter, FullRange};
+use encoder::{Evaluation, Quadruple};
 use std::io::{BufRead, BufReader, ErrorKind};
-use winding::{Wheel, Winding, bears_data, read_wheel, record_digits, wind_line};
-
-// What the head of a capture sets up.
-#[derive(Drop)]
-struct Drum {
-    wheel: Wheel,
-    winding: Winding<Staged<PickedEvaluation>, PickedCounter>,
-}
+use winding::{Wheel, Winding, bears_data, read_wheel, wind_line};
 
 fn main(rt: HostRuntime) -> anyhow::Result<()> {
     run(&rt)
 }
 
 fn run(rt: &HostRuntime) -> anyhow::Result<()> {
-    let drum = wind_all(rt)?;
-    let bill = drum.winding.bill(&drum.wheel);
+    let mut winding = Winding::new(Quadruple, FullRange::endless(0));
+    let wheel = wind_all(rt, &mut winding)?;
+    let bill = winding.bill(&wheel);
     println!(rt; "{bill}")?;
     Ok(())
 }
 
-// Winds the capture on standard input. Bad samples are reported and passed over.
-fn wind_all(rt: &HostRuntime) -> anyhow::Result<Drum> {
-    let mut record = Vec::new(rt.alloc());
-    let mut drum = None;
+// Winds the capture on standard input, and answers its wheel. Bad lines are reported and passed over.
+fn wind_all<E: Evaluation, C: Counter>(
+    rt: &HostRuntime,
+    winding: &mut Winding<E, C>,
+) -> anyhow::Result<Wheel> {
+    let mut wheel = None;
     for (index, line) in BufReader::new(rt.alloc(), rt.stdin())?
         .lines(rt.alloc())
         .enumerate()
@@ -48,75 +42,20 @@ fn wind_all(rt: &HostRuntime) -> anyhow::Result<Drum> {
         if !bears_data(line) {
             continue;
         }
-        match drum.take() {
-            Some(begun) => drum = Some(wind_sample(rt, begun, number, line)?),
-            None => match record_digits(line) {
-                Some(digits) => append(rt, &mut record, number, digits)?,
-                None => drum = Some(set_up(rt, &record, number, line)?),
-            },
-        }
-    }
-    match drum {
-        Some(drum) => Ok(drum),
-        None => {
-            let _ = read_record(rt, &record)?;
-            Err(anyhow!("the capture has no wheel"))
-        }
-    }
-}
-
-// Adds a line's bytes to the record.
-fn append(
-    rt: &HostRuntime,
-    record: &mut Vec<u8>,
-    number: usize,
-    digits: &[u8],
-) -> anyhow::Result<()> {
-    match from_hex(rt.alloc(), digits) {
-        Ok(bytes) => {
-            record.extend_from_slice(&bytes)?;
-            Ok(())
-        }
-        Err(HexFault::NotHex) => {
-            eprintln!(rt; "line {number}: not pairs of hexadecimal digits")?;
-            Err(anyhow!("the record cannot be read"))
-        }
-        Err(HexFault::NoMemory) => Err(anyhow!("the record does not fit the memory")),
-    }
-}
-
-// The parameters of the record; where it is refused, the refusal is printed.
-fn read_record(rt: &HostRuntime, record: &[u8]) -> anyhow::Result<Parameters> {
-    match Parameters::read(record) {
-        Ok(parameters) => Ok(parameters),
-        Err(refusal) => {
-            let words = refusal.in_words();
-            println!(rt; "{words}")?;
-            Err(anyhow!("the record is refused"))
-        }
-    }
-}
-
-// Sets up the winding by the record and by the wheel's line behind it.
-fn set_up(rt: &HostRuntime, record: &[u8], number: usize, line: &str) -> anyhow::Result<Drum> {
-    let parameters = read_record(rt, record)?;
-    match read_wheel(line) {
-        Ok(wheel) => Ok(Drum {
-            wheel,
-            winding: Winding::new(parameters.evaluation(), parameters.counter()),
-        }),
-        Err(fault) => {
+        if wheel.is_none() {
+            match read_wheel(line) {
+                Ok(w) => wheel = Some(w),
+                Err(fault) => {
+                    eprintln!(rt; "line {number}: {fault}")?;
+                    return Err(anyhow!("the capture does not begin with a wheel"));
+                }
+            }
+        } else if let Err(fault) = wind_line(winding, line) {
             eprintln!(rt; "line {number}: {fault}")?;
-            Err(anyhow!("the capture has no wheel behind its record"))
         }
     }
-}
-
-// Winds one line.
-fn wind_sample(rt: &HostRuntime, drum: Drum, number: usize, line: &str) -> anyhow::Result<Drum> {
-    let mut drum = drum;
-    if let Err(fault) = wind_line(&mut drum.winding, line) {
-        eprintln!(rt; "line {number}: {fault}")?;
+    match wheel {
+        Some(wheel) => Ok(wheel),
+        None => Err(anyhow!("the capture is empty")),
     }
-    Ok(drum)
 }

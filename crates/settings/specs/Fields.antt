@@ -1,5 +1,5 @@
 -- The table of fields: tags, lengths and places.
-use Rattle.std.specs.Prelude.{ℕ, ◌+◌, ◌/◌, ◌%◌, List, ◌∷◌, ◌++◌, length, take, drop}
+use Rattle.std.specs.Prelude.{ℕ, ◌/◌, ◌%◌, List, ◌∷◌, ◌++◌, length, take, drop}
 use Rattle.settings.specs.declared.field.Field.{Field}
 use Rattle.settings.specs.declared.field.Field.TheVariants.{Mode, Direction, End, Load, Evaluation, BInverted, DiFunction, GateInputInverted, Gate, Synchronisation, Output1, Output2}
 

@@ -1,13 +1,13 @@
 // The bill of a winding.
 ghost use Rattle.std.specs.Prelude.{◌≡◌, ◌/◌, ◌^◌, ◌<◌, pos, ◌*ℤ◌, Some};
-ghost use Rattle.winding.specs.Bill.{pulses_per_turn, evaluation_of, millimetres, thousandths_text, tally_text, bill_text};
+ghost use Rattle.winding.specs.Bill.{pulses_per_turn, evaluation_of, millimetres, millimetres_by_evaluation, thousandths_text, tally_text, bill_text};
 ghost use Rattle.winding.specs.Winding.{sums_of};
 
 use crate::tally::Tally;
 use crate::wheel::Wheel;
 use crate::winding::Winding;
 use counter::Counter;
-use encoder::{PickedEvaluation, Staged};
+use encoder::{Evaluation, PickedEvaluation, Staged};
 use std::fmt;
 
 // A number of thousandths, written with the point: millimetres as metres, milliseconds as seconds.
@@ -36,6 +36,14 @@ impl Wheel {
         i64::from(reading) * i64::from(self.circumference)
     }
 
+    // The length that a reading stands for, rounded down to the millimetre.
+    pub fn length(&self, reading: i32) -> Thousandths
+        ensures { result.0 ≡ millimetres self.now reading }
+    {
+        let per_millimetre = 4000 * i64::from(self.lines);
+        Thousandths(self.turned(reading).div_euclid(per_millimetre))
+    }
+
     // The pulses that an evaluation counts in one turn.
     fn pulses_per_turn(&self, evaluation: PickedEvaluation) -> i64
         ensures value { result ≡ pos (pulses_per_turn self.now evaluation) }
@@ -50,9 +58,9 @@ impl Wheel {
         }
     }
 
-    // The length that a reading stands for, rounded down to the millimetre.
-    pub fn length(&self, reading: i32, evaluation: PickedEvaluation) -> Thousandths
-        ensures { result.0 ≡ millimetres self.now evaluation reading }
+    // The length that a reading stands for where this evaluation counted its pulses, rounded down to the millimetre.
+    pub fn length_by_evaluation(&self, reading: i32, evaluation: PickedEvaluation) -> Thousandths
+        ensures { result.0 ≡ millimetres_by_evaluation self.now evaluation reading }
     {
         let divisor = 1000 * self.pulses_per_turn(evaluation);
         Thousandths(self.turned(reading).div_euclid(divisor))
@@ -69,6 +77,25 @@ pub struct Bill {
     time: Thousandths,
 }
 
+impl<E: Evaluation, C: Counter> Winding<E, C> {
+    // Length and time are rounded down, to the millimetre and the millisecond.
+    pub fn bill(&self, wheel: &Wheel) -> Bill
+        ensures tally { result.tally ≡ self.now.tally }
+        ensures reading { result.reading ≡ (C.Counter.means self.now.counter).reading }
+        ensures length { result.length.0 ≡ millimetres wheel.now (C.Counter.means self.now.counter).reading }
+        ensures time { result.time.0 ≡ pos (self.now.tally.elapsed / 1000) }
+    {
+        let tally = self.tally;
+        let reading = self.counter.meaning().reading;
+        Bill {
+            tally,
+            reading,
+            length: wheel.length(reading),
+            time: Thousandths((tally.elapsed / 1000) as i64),
+        }
+    }
+}
+
 impl<C: Counter> Winding<Staged<PickedEvaluation>, C> {
     // The evaluation, with or without the stage before it.
     fn picked(&self) -> PickedEvaluation
@@ -80,22 +107,16 @@ impl<C: Counter> Winding<Staged<PickedEvaluation>, C> {
         }
     }
 
-    // Length and time are rounded down, to the millimetre and the millisecond.
-    pub fn bill(&self, wheel: &Wheel) -> Bill
+    // The bill of a winding whose evaluation settings picked: its length goes by that evaluation.
+    pub fn bill_by_evaluation(&self, wheel: &Wheel) -> Bill
         ensures tally { result.tally ≡ self.now.tally }
         ensures reading { result.reading ≡ (C.Counter.means self.now.counter).reading }
-        ensures length { result.length.0 ≡ millimetres wheel.now (evaluation_of self.now.evaluation) (C.Counter.means self.now.counter).reading }
+        ensures length { result.length.0 ≡ millimetres_by_evaluation wheel.now (evaluation_of self.now.evaluation) (C.Counter.means self.now.counter).reading }
         ensures time { result.time.0 ≡ pos (self.now.tally.elapsed / 1000) }
     {
-        let tally = self.tally;
-        let reading = self.counter.meaning().reading;
-        let length = wheel.length(reading, self.picked());
-        Bill {
-            tally,
-            reading,
-            length,
-            time: Thousandths((tally.elapsed / 1000) as i64),
-        }
+        let bill = self.bill(wheel);
+        let length = wheel.length_by_evaluation(bill.reading, self.picked());
+        Bill { length, ..bill }
     }
 }
 

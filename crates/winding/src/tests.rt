@@ -9,6 +9,25 @@ use std::test::Fail;
 #[test]
 fn lengths_round_down(rt: HostRuntime) -> Result<(), Fail> {
     let lengths = [
+        ("333333 50", 602, 1003),
+        ("200000 500", 2000, 200),
+        ("1000 1", -1, -1),
+        ("1000 1", -4, -1),
+        ("1000 1", -5, -2),
+        ("4294967295 1", -2147483648, -2305843008676824),
+    ];
+    for (line, reading, millimetres) in lengths {
+        let Ok(wheel) = read_wheel(line) else {
+            return Err(Fail::new("no wheel"));
+        };
+        assert_eq!(rt; wheel.length(reading), Thousandths(millimetres));
+    }
+    Ok(())
+}
+
+#[test]
+fn lengths_by_evaluation(rt: HostRuntime) -> Result<(), Fail> {
+    let lengths = [
         ("333333 50", 602, PickedEvaluation::Quadruple, 1003),
         ("333333 50", 301, PickedEvaluation::Double, 1003),
         ("200000 500", 2000, PickedEvaluation::Quadruple, 200),
@@ -28,7 +47,10 @@ fn lengths_round_down(rt: HostRuntime) -> Result<(), Fail> {
         let Ok(wheel) = read_wheel(line) else {
             return Err(Fail::new("no wheel"));
         };
-        assert_eq!(rt; wheel.length(reading, evaluation), Thousandths(millimetres));
+        assert_eq!(rt;
+            wheel.length_by_evaluation(reading, evaluation),
+            Thousandths(millimetres)
+        );
     }
     Ok(())
 }

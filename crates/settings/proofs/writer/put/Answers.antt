@@ -1,4 +1,4 @@
-use Rattle.std.proofs.Common.{◌≡◌, ℕ, ◌+◌, List, [], ap, ◌∙◌, arith, rules}
+use Rattle.std.proofs.Common.{◌≡◌, ℕ, ◌+◌, List, [], ap, ◌∙◌, arith}
 use Rattle.settings.specs.Fields.{place_of, written, overlaid}
 use Rattle.settings.proofs.Writing.{put_twice}
 use Rattle.settings.proofs.writer.put.Goals as goal

@@ -17,21 +17,21 @@ returns c =
       second_is = record { digits = b.0.0; small = b.0.1; is = b.1 };
     }
 
-pub returns-in-default : goal.returns-in-default
-returns-in-default c = (refl, λ a b two. needs_blank c.args.line.now a b (split_parts 32 c.args.line.now None c.in-default.ensures.cases (lit< tt)) two)
+pub returns-in_default : goal.returns-in_default
+returns-in_default c = (refl, λ a b two. needs_blank c.args.line.now a b (split_parts 32 c.args.line.now None c.in_default.ensures.cases (lit< tt)) two)
 
-pub returns-in-default-parse : goal.returns-in-default-parse
-returns-in-default-parse c = (
+pub returns-in_default-parse : goal.returns-in_default-parse
+returns-in_default-parse c = (
   refl,
   λ a b two.
       let parts = at_first_blank c.args.line.now a b c.in-Some.first c.in-Some.second c.in-Some.ensures.cases two in
-      c.in-default-parse.not-Ok _ (Ok-from_Ok_iff c.parse.result _ _ c.parse.ensures.value.0 (rw parts.0 (two.first_is.digits, two.first_is.small))),
+      c.in_default-parse.not-Ok _ (Ok-from_Ok_iff c.parse.result _ _ c.parse.ensures.value.0 (rw parts.0 (two.first_is.digits, two.first_is.small))),
 )
 
-pub returns-in-default-parse-2 : goal.returns-in-default-parse-2
-returns-in-default-parse-2 c = (
+pub returns-in_default-parse-2 : goal.returns-in_default-parse-2
+returns-in_default-parse-2 c = (
   refl,
   λ a b two.
       let parts = at_first_blank c.args.line.now a b c.in-Some.first c.in-Some.second c.in-Some.ensures.cases two in
-      c.in-default-parse-2.not-Ok _ (Ok-from_Ok_iff c.parse-2.result _ _ c.parse-2.ensures.value.0 (rw parts.1 (two.second_is.digits, two.second_is.small))),
+      c.in_default-parse-2.not-Ok _ (Ok-from_Ok_iff c.parse-2.result _ _ c.parse-2.ensures.value.0 (rw parts.1 (two.second_is.digits, two.second_is.small))),
 )
