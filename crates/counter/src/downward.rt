@@ -2,7 +2,7 @@
 ghost use Rattle.std.specs.Prelude.{◌≡◌, true, false, pos, ◌-ℤ◌};
 ghost use Rattle.counter.specs.Counting.{LOW, HIGH, Between};
 ghost use Rattle.counter.specs.Rows.{downward, downward_fits, Makes};
-ghost use Rattle.std.proofs.Common.{rules, arith};
+ghost use Rattle.std.proofs.Common.{rules};
 
 use crate::counter::Counter;
 use crate::meaning::{Crossing, Landing, Meaning, OutsideLimits};
@@ -52,7 +52,7 @@ impl Downward {
 impl Counter for Downward {
     ghost means = { λ c. downward c.stops c.end c.reading c.load };
 
-    ghost sound = { first_of (Prim.search rules, Prim.grind (arith, Self.row.coded.inj)) };
+    ghost sound = { Prim.search rules };
 
     fn meaning(&self) -> Meaning {
         Meaning {

@@ -2,7 +2,7 @@
 ghost use Rattle.std.specs.Prelude.{◌≡◌, true, false};
 ghost use Rattle.counter.specs.Counting.{LOW, HIGH, Between};
 ghost use Rattle.counter.specs.Rows.{full_range};
-ghost use Rattle.std.proofs.Common.{rules, arith};
+ghost use Rattle.std.proofs.Common.{rules};
 
 use crate::counter::Counter;
 use crate::meaning::{Crossing, Landing, Meaning, OutsideLimits};
@@ -42,7 +42,7 @@ impl FullRange {
 impl Counter for FullRange {
     ghost means = { λ c. full_range c.stops c.reading c.load };
 
-    ghost sound = { first_of (Prim.search rules, Prim.grind (arith, Self.row.coded.inj)) };
+    ghost sound = { Prim.search rules };
 
     fn meaning(&self) -> Meaning {
         Meaning {

@@ -2,7 +2,7 @@
 ghost use Rattle.std.specs.Prelude.{◌≡◌};
 ghost use Rattle.counter.specs.Counting.{LOW, HIGH, Between};
 ghost use Rattle.counter.specs.Rows.{periodic};
-ghost use Rattle.std.proofs.Common.{rules, arith};
+ghost use Rattle.std.proofs.Common.{rules};
 
 use crate::counter::Counter;
 use crate::meaning::{Crossing, Landing, Meaning, OutsideLimits};
@@ -30,7 +30,7 @@ impl Periodic {
 impl Counter for Periodic {
     ghost means = { λ c. periodic c.reading c.load };
 
-    ghost sound = { first_of (Prim.search rules, Prim.grind (arith, Self.row.coded.inj)) };
+    ghost sound = { Prim.search rules };
 
     fn meaning(&self) -> Meaning {
         Meaning {

@@ -2,7 +2,7 @@
 ghost use Rattle.std.specs.Prelude.{◌≡◌, true, false, pos, ◌-ℤ◌};
 ghost use Rattle.counter.specs.Counting.{LOW, HIGH, Between};
 ghost use Rattle.counter.specs.Rows.{upward, upward_fits, Makes};
-ghost use Rattle.std.proofs.Common.{rules, arith};
+ghost use Rattle.std.proofs.Common.{rules};
 
 use crate::counter::Counter;
 use crate::meaning::{Crossing, Landing, Meaning, OutsideLimits};
@@ -59,7 +59,7 @@ impl Upward {
 impl Counter for Upward {
     ghost means = { λ c. upward c.stops c.end c.reading c.load };
 
-    ghost sound = { first_of (Prim.search rules, Prim.grind (arith, Self.row.coded.inj)) };
+    ghost sound = { Prim.search rules };
 
     fn meaning(&self) -> Meaning {
         Meaning {

@@ -24,11 +24,11 @@ abbrev pub staged_answers : {E : Type 0} → (E → Answers) → Staged E → An
 staged_answers answers (staged.Direct e) = answers e
 staged_answers answers (staged.Inverted s) = inverted (answers s.inner)
 
+abbrev pub staged_height : {E : Type 0} → (E → ℤ → ℤ) → Staged E → ℤ → ℤ
+staged_height height (staged.Direct e) = height e
+staged_height height (staged.Inverted s) = inverted_height (height s.inner)
+
 -- with the stage or without, it is silent where the evaluation is
 pub staged_silent : {E : Type 0} (answers : E → Answers) → ((e : E) → Silent (answers e)) → (s : Staged E) → Silent (staged_answers answers s)
 staged_silent answers silent (staged.Direct e) = silent e
 staged_silent answers silent (staged.Inverted s) = inverted_silent (answers s.inner) (silent s.inner)
-
-abbrev pub staged_height : {E : Type 0} → (E → ℤ → ℤ) → Staged E → ℤ → ℤ
-staged_height height (staged.Direct e) = height e
-staged_height height (staged.Inverted s) = inverted_height (height s.inner)

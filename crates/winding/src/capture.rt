@@ -1,4 +1,4 @@
-// A capture of the encoder's lines as text: the record, the wheel, then one sample a line.
+// A capture of the encoder's lines as text: the wheel on the first line, then one sample a line. A record may stand before them.
 ghost use Rattle.std.specs.Prelude.{◌≡◌, ℕ, Some, MatchResult};
 ghost use Rattle.winding.specs.declared.capture.LineFault.TheVariants.{NotTwoNumbers, NoRoom};
 ghost use Rattle.winding.specs.Capture.{fault_words, bears_data, RecordLine, TwoNumbers, sample_of, Answered, Samples, Wheels, WindsLine};
