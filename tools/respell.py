@@ -5,8 +5,9 @@ usage: python3 tools/respell.py            at the top of the repository
 
 A name is taken where specs/ or proofs/ declares it: a definition, a lemma, a constructor or a field of a record, or a
 name that a proof gives to a step of its own by `let`. It is respelled wherever it stands as a whole name in an .antt or
-.rt file, but not in a comment, not in a string, and never where Rattle made the name (a goal, a step or a field of it).
-A second run changes nothing. Names that would fall together are listed, and then nothing is changed.
+.rt file of any crate, but not in a comment, not in a string, and not behind `goal.`, where Rattle's own names of goals
+stand. A step of a proof that Rattle named as some declared name is named would be respelled too: the check tells.
+A second run changes nothing. Names of one crate that would fall together are listed, and then nothing is changed.
 """
 
 import os

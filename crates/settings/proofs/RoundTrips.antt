@@ -62,15 +62,15 @@ owned =
     field_owns field.End end_read (λ v. number_written v.0) (λ c. record { 0 = c.end }) end_own (λ end.
     field_owns field.Load number_read number_written (λ c. c.load) number_own (λ load.
     field_owns field.Evaluation evaluation_read (λ v. evaluation_code v ∷ []) (λ c. c.evaluation) (coded_own evaluation_code evaluations) (λ evaluation.
-    field_owns field.BInverted flag_read (λ v. flag_code v ∷ []) (λ c. c.b_inverted) (coded_own flag_code flags) (λ b-inverted.
+    field_owns field.BInverted flag_read (λ v. flag_code v ∷ []) (λ c. c.b_inverted) (coded_own flag_code flags) (λ b_inverted.
     field_owns field.DiFunction di_read (λ v. di_code v ∷ []) (λ c. c.di_function) (coded_own di_code di_functions) (λ di.
-    field_owns field.GateInputInverted flag_read (λ v. flag_code v ∷ []) (λ c. c.gate_input_inverted) (coded_own flag_code flags) (λ gate-inverted.
+    field_owns field.GateInputInverted flag_read (λ v. flag_code v ∷ []) (λ c. c.gate_input_inverted) (coded_own flag_code flags) (λ gate_inverted.
     field_owns field.Gate gate_read (λ v. gate_code v ∷ []) (λ c. c.gate) (coded_own gate_code gate_functions) (λ gate.
     field_owns field.Synchronisation synchronisation_read (λ v. synchronisation_code v ∷ []) (λ c. c.synchronisation) (coded_own synchronisation_code synchronisations) (λ synchronisation.
     field_owns field.Output1 output_read output_written (λ c. c.output1) output_own (λ output1.
     field_owns field.Output2 output_read output_written (λ c. c.output2) output_own (λ output2 bytes b all e.
-    let end_of_lem = ended (record { mode = mode; direction = direction; end = end.0; load = load; evaluation = evaluation; b_inverted = b-inverted; di_function = di; gate_input_inverted = gate-inverted; gate = gate; synchronisation = synchronisation; output1 = output1; output2 = output2 }) bytes b e in
-    let is = end_of_lem.0 in (
+    let end_of = ended (record { mode = mode; direction = direction; end = end.0; load = load; evaluation = evaluation; b_inverted = b_inverted; di_function = di; gate_input_inverted = gate_inverted; gate = gate; synchronisation = synchronisation; output1 = output1; output2 = output2 }) bytes b e in
+    let is = end_of.0 in (
       (
         (
           (
@@ -108,7 +108,7 @@ owned =
         ),
         ap (λ c. c.output2) is,
       ),
-      end_of_lem.1,
+      end_of.1,
     )))))))))))))
 
 pub own_record : (bytes : List ℕ) (c : Choices) → All Byte bytes → choices_read bytes ≡ Ok c → bytes ≡ record_of c

@@ -28,14 +28,14 @@ choices_read =
     field End end_read (λ end.
     field Load number_read (λ load.
     field Evaluation evaluation_read (λ evaluation.
-    field BInverted flag_read (λ b-inverted.
+    field BInverted flag_read (λ b_inverted.
     field DiFunction di_read (λ di.
-    field GateInputInverted flag_read (λ gate-inverted.
+    field GateInputInverted flag_read (λ gate_inverted.
     field Gate gate_read (λ gate.
     field Synchronisation synchronisation_read (λ synchronisation.
     field Output1 output_read (λ output1.
     field Output2 output_read (λ output2.
-    ending (record { mode = mode; direction = direction; end = end.0; load = load; evaluation = evaluation; b_inverted = b-inverted; di_function = di; gate_input_inverted = gate-inverted; gate = gate; synchronisation = synchronisation; output1 = output1; output2 = output2 })))))))))))))
+    ending (record { mode = mode; direction = direction; end = end.0; load = load; evaluation = evaluation; b_inverted = b_inverted; di_function = di; gate_input_inverted = gate_inverted; gate = gate; synchronisation = synchronisation; output1 = output1; output2 = output2 })))))))))))))
 
 -- the verdict on a record: first its fields, then their agreement
 abbrev pub verdict : List ℕ → Result Choices Refusal
