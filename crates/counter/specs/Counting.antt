@@ -1,9 +1,10 @@
 -- What a counter means, and how counting, a new load and a put move it.
-use Rattle.std.specs.Prelude.{Bool, true, false, cond, ◌&&◌, ℤ, pos, negsuc, ◌+ℤ◌, ◌-ℤ◌, ◌≤ℤ◌, ◌<ℤ◌, int_le, int_lt}
+use Rattle.std.specs.Prelude.{Bool, true, false, cond, ◌&&◌, ℤ, pos, negsuc, ◌+ℤ◌, ◌-ℤ◌, ◌≤ℤ◌, ◌<ℤ◌, int_le, int_lt, Some, None, Option}
 use Rattle.counter.specs.declared.meaning.Landing.{Landing}
+use Rattle.counter.specs.declared.meaning.Landing.TheVariants.{Fixed, OnLoad}
 use Rattle.counter.specs.declared.meaning.Meaning.{Meaning}
 use Rattle.counter.specs.declared.meaning.Crossing.{Crossing}
-use Rattle.counter.specs.declared.meaning.Crossing.TheVariants.{Overflow, Underflow, Within}
+use Rattle.counter.specs.declared.meaning.Crossing.TheVariants.{Overflow, Underflow}
 
 -- the least and the greatest reading of any counter
 abbrev pub LOW : ℤ
@@ -16,6 +17,16 @@ HIGH = pos 2147483647
 abbrev pub Between : ℤ → ℤ → ℤ → Type 0
 Between a v b = (a ≤ℤ v) × (v ≤ℤ b)
 
+-- the reading on which a landing is
+abbrev pub lands_on : Landing → ℤ
+lands_on (Fixed reading) = reading
+lands_on (OnLoad reading) = reading
+
+-- whether a new load moves it
+abbrev pub follows_load : Landing → Bool
+follows_load (Fixed reading) = false
+follows_load (OnLoad reading) = true
+
 -- what every counter keeps: its limits are in order, and all its values lie within them
 pub record Sound (m : Meaning) : Type 0 where
   pub least : LOW ≤ℤ m.low
@@ -23,8 +34,8 @@ pub record Sound (m : Meaning) : Type 0 where
   pub most : m.high ≤ℤ HIGH
   pub reading_inside : Between m.low m.reading m.high
   pub load_inside : Between m.low m.load m.high
-  pub overflow_inside : Between m.low m.overflow.at m.high
-  pub underflow_inside : Between m.low m.underflow.at m.high
+  pub overflow_inside : Between m.low (lands_on m.overflow) m.high
+  pub underflow_inside : Between m.low (lands_on m.underflow) m.high
 
 -- the counter at another reading
 abbrev pub at_reading : Meaning → ℤ → Meaning
@@ -35,44 +46,38 @@ abbrev pub risen : ℤ → ℤ → ℤ → ℤ
 risen reading high landing = cond (int_lt reading high) (reading +ℤ pos 1) landing
 
 -- and what it did at the limit
-abbrev pub rise_crossing : ℤ → ℤ → Crossing
-rise_crossing reading high = cond (int_lt reading high) Within Overflow
+abbrev pub rise_crossing : ℤ → ℤ → Option Crossing
+rise_crossing reading high = cond (int_lt reading high) None (Some Overflow)
 
 -- a reading after a pulse down: 1 less above low, and the landing at low
 abbrev pub fallen : ℤ → ℤ → ℤ → ℤ
 fallen reading low landing = cond (int_lt low reading) (reading -ℤ pos 1) landing
 
 -- and what it did at the limit
-abbrev pub fall_crossing : ℤ → ℤ → Crossing
-fall_crossing reading low = cond (int_lt low reading) Within Underflow
+abbrev pub fall_crossing : ℤ → ℤ → Option Crossing
+fall_crossing reading low = cond (int_lt low reading) None (Some Underflow)
 
 -- a pulse moves the reading and nothing else
 abbrev pub up : Meaning → Meaning
-up m = at_reading m (risen m.reading m.high m.overflow.at)
+up m = at_reading m (risen m.reading m.high (lands_on m.overflow))
 
-abbrev pub up_crossing : Meaning → Crossing
+abbrev pub up_crossing : Meaning → Option Crossing
 up_crossing m = rise_crossing m.reading m.high
 
 abbrev pub down : Meaning → Meaning
-down m = at_reading m (fallen m.reading m.low m.underflow.at)
+down m = at_reading m (fallen m.reading m.low (lands_on m.underflow))
 
-abbrev pub down_crossing : Meaning → Crossing
+abbrev pub down_crossing : Meaning → Option Crossing
 down_crossing m = fall_crossing m.reading m.low
 
 -- put makes the reading equal to the load
 abbrev pub put : Meaning → Meaning
 put m = at_reading m m.load
 
--- a landing that stays where it is, and one that follows the load
-abbrev pub fixed : ℤ → Landing
-fixed v = record { at = v; follows = false }
-
-abbrev pub on_load : ℤ → Landing
-on_load load = record { at = load; follows = true }
-
 -- a landing after a new load
 abbrev follow : Landing → ℤ → Landing
-follow l load = record { at = cond l.follows load l.at; follows = l.follows }
+follow (Fixed reading) load = Fixed reading
+follow (OnLoad reading) load = OnLoad load
 
 -- the counter with another load
 abbrev pub with_load : Meaning → ℤ → Meaning

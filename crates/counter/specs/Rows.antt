@@ -1,27 +1,28 @@
 -- The counters that settings pick, a line for each mode and main count direction.
 use Rattle.std.specs.Prelude.{◌≡◌, Bool, true, false, ◌&&◌, ℤ, pos, ◌-ℤ◌, Some, None, Option, int_le}
 use Rattle.counter.specs.declared.meaning.Meaning.{Meaning}
+use Rattle.counter.specs.declared.meaning.Landing.TheVariants.{Fixed, OnLoad}
 use Rattle.counter.specs.declared.mode.Mode.{Mode}
 use Rattle.counter.specs.declared.mode.Mode.TheVariants.{Endless, Once, Periodic}
 use Rattle.counter.specs.declared.mode.MainDirection.{MainDirection}
 use Rattle.counter.specs.declared.mode.MainDirection.TheVariants.{Neither, Up, Down}
-use Rattle.counter.specs.Counting.{LOW, HIGH, fixed, on_load, accepts}
+use Rattle.counter.specs.Counting.{LOW, HIGH, accepts}
 
 -- between LOW and HIGH, from one end to the other
 abbrev pub full_range : Bool → ℤ → ℤ → Meaning
-full_range stops reading load = record { reading = reading; low = LOW; high = HIGH; load = load; overflow = fixed LOW; underflow = fixed HIGH; stops = stops }
+full_range stops reading load = record { reading = reading; low = LOW; high = HIGH; load = load; overflow = Fixed LOW; underflow = Fixed HIGH; stops = stops }
 
 -- between LOW and HIGH, from either end to the load
 abbrev pub periodic : ℤ → ℤ → Meaning
-periodic reading load = record { reading = reading; low = LOW; high = HIGH; load = load; overflow = on_load load; underflow = on_load load; stops = false }
+periodic reading load = record { reading = reading; low = LOW; high = HIGH; load = load; overflow = OnLoad load; underflow = OnLoad load; stops = false }
 
 -- up to one below the end value, and from there to the load
 abbrev pub upward : Bool → ℤ → ℤ → ℤ → Meaning
-upward stops end reading load = record { reading = reading; low = LOW; high = end -ℤ pos 1; load = load; overflow = on_load load; underflow = fixed (end -ℤ pos 1); stops = stops }
+upward stops end reading load = record { reading = reading; low = LOW; high = end -ℤ pos 1; load = load; overflow = OnLoad load; underflow = Fixed (end -ℤ pos 1); stops = stops }
 
 -- from the end value down to 1, and from there to the load
 abbrev pub downward : Bool → ℤ → ℤ → ℤ → Meaning
-downward stops end reading load = record { reading = reading; low = pos 1; high = end; load = load; overflow = fixed (pos 1); underflow = on_load load; stops = stops }
+downward stops end reading load = record { reading = reading; low = pos 1; high = end; load = load; overflow = Fixed (pos 1); underflow = OnLoad load; stops = stops }
 
 -- an end value is 2 to HIGH
 abbrev pub end_fits : ℤ → Bool
@@ -33,6 +34,12 @@ upward_fits end load = end_fits end && accepts (upward false end load load) load
 
 abbrev pub downward_fits : ℤ → ℤ → Bool
 downward_fits end load = end_fits end && accepts (downward false end load load) load
+
+-- only a once counter stops
+abbrev pub stops : Mode → Bool
+stops Endless = false
+stops Once = true
+stops Periodic = false
 
 -- the line for a mode and a main count direction, at an end value and a load; a new counter reads its load
 abbrev pub row : Mode → MainDirection → ℤ → ℤ → Meaning

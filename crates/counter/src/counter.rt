@@ -15,12 +15,12 @@ pub trait Counter {
         ensures { result ≡ means self.now };
 
     // One pulse up.
-    fn up(&mut self) -> Crossing
+    fn up(&mut self) -> Option<Crossing>
         ensures moved { means self.new ≡ up (means self.old) }
         ensures crossing { result ≡ up_crossing (means self.old) };
 
     // One pulse down.
-    fn down(&mut self) -> Crossing
+    fn down(&mut self) -> Option<Crossing>
         ensures moved { means self.new ≡ down (means self.old) }
         ensures crossing { result ≡ down_crossing (means self.old) };
 

@@ -1,8 +1,7 @@
 // Counts with down as its main direction: from the end value to 1, and then from the load.
-ghost use Rattle.std.specs.Prelude.{◌≡◌, true, false, pos, ◌-ℤ◌};
-ghost use Rattle.counter.specs.Counting.{LOW, HIGH, Between};
+ghost use Rattle.std.specs.Prelude.{◌≡◌, pos};
+ghost use Rattle.counter.specs.Counting.{HIGH, Between, Sound};
 ghost use Rattle.counter.specs.Rows.{downward, downward_fits, Makes};
-ghost use Rattle.std.proofs.Common.{rules};
 
 use crate::counter::Counter;
 use crate::meaning::{Crossing, Landing, Meaning, OutsideLimits};
@@ -15,26 +14,12 @@ pub struct Downward {
     end: i32,
     stops: bool,
     ghost ends: { Between (pos 2) end HIGH },
-    ghost readable: { Between (pos 1) reading end },
-    ghost loadable: { Between (pos 1) load end },
+    ghost sound: { Sound (downward stops end reading load) },
 }
 
 impl Downward {
-    // Stops at a crossing. The end value must be at least 2, and the load within the limits.
-    pub fn once(end: i32, load: i32) -> Option<Downward>
-        ensures { Makes (λ c. downward c.stops c.end c.reading c.load) result (downward_fits end load) (downward true end load load) }
-    {
-        Downward::new(end, load, true)
-    }
-
-    // Goes on at a crossing.
-    pub fn periodic(end: i32, load: i32) -> Option<Downward>
-        ensures { Makes (λ c. downward c.stops c.end c.reading c.load) result (downward_fits end load) (downward false end load load) }
-    {
-        Downward::new(end, load, false)
-    }
-
-    fn new(end: i32, load: i32, stops: bool) -> Option<Downward>
+    // Stops or goes on at a crossing. The end value must be at least 2, and the load within the limits.
+    pub fn new(end: i32, load: i32, stops: bool) -> Option<Downward>
         ensures { Makes (λ c. downward c.stops c.end c.reading c.load) result (downward_fits end load) (downward stops end load load) }
     {
         if end < 2 || load < 1 || load > end {
@@ -52,7 +37,7 @@ impl Downward {
 impl Counter for Downward {
     ghost means = { λ c. downward c.stops c.end c.reading c.load };
 
-    ghost sound = { Prim.search rules };
+    ghost sound = { λ c. c.sound };
 
     fn meaning(&self) -> Meaning {
         Meaning {
@@ -60,17 +45,17 @@ impl Counter for Downward {
             low: 1,
             high: self.end,
             load: self.load,
-            overflow: Landing::fixed(1),
-            underflow: Landing::on_load(self.load),
+            overflow: Landing::Fixed(1),
+            underflow: Landing::OnLoad(self.load),
             stops: self.stops,
         }
     }
 
-    fn up(&mut self) -> Crossing {
+    fn up(&mut self) -> Option<Crossing> {
         step_up(&mut self.reading, self.end, 1)
     }
 
-    fn down(&mut self) -> Crossing {
+    fn down(&mut self) -> Option<Crossing> {
         step_down(&mut self.reading, 1, self.load)
     }
 

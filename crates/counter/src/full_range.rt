@@ -1,8 +1,7 @@
 // Counts over the whole 32-bit range, and goes on from one end at the other.
-ghost use Rattle.std.specs.Prelude.{◌≡◌, true, false};
-ghost use Rattle.counter.specs.Counting.{LOW, HIGH, Between};
+ghost use Rattle.std.specs.Prelude.{◌≡◌};
+ghost use Rattle.counter.specs.Counting.{Sound};
 ghost use Rattle.counter.specs.Rows.{full_range};
-ghost use Rattle.std.proofs.Common.{rules};
 
 use crate::counter::Counter;
 use crate::meaning::{Crossing, Landing, Meaning, OutsideLimits};
@@ -12,29 +11,18 @@ pub struct FullRange {
     reading: i32,
     load: i32,
     stops: bool,
-    ghost readable: { Between LOW reading HIGH },
-    ghost loadable: { Between LOW load HIGH },
+    ghost sound: { Sound (full_range stops reading load) },
 }
 
 impl FullRange {
-    pub fn endless(load: i32) -> FullRange
-        ensures { full_range result.stops result.reading result.load ≡ full_range false load load }
+    // Stops or goes on at a crossing.
+    pub fn new(load: i32, stops: bool) -> FullRange
+        ensures { full_range result.stops result.reading result.load ≡ full_range stops load load }
     {
         FullRange {
             reading: load,
             load,
-            stops: false,
-        }
-    }
-
-    // Stops at a crossing.
-    pub fn once(load: i32) -> FullRange
-        ensures { full_range result.stops result.reading result.load ≡ full_range true load load }
-    {
-        FullRange {
-            reading: load,
-            load,
-            stops: true,
+            stops,
         }
     }
 }
@@ -42,7 +30,7 @@ impl FullRange {
 impl Counter for FullRange {
     ghost means = { λ c. full_range c.stops c.reading c.load };
 
-    ghost sound = { Prim.search rules };
+    ghost sound = { λ c. c.sound };
 
     fn meaning(&self) -> Meaning {
         Meaning {
@@ -50,30 +38,22 @@ impl Counter for FullRange {
             low: i32::MIN,
             high: i32::MAX,
             load: self.load,
-            overflow: Landing::fixed(i32::MIN),
-            underflow: Landing::fixed(i32::MAX),
+            overflow: Landing::Fixed(i32::MIN),
+            underflow: Landing::Fixed(i32::MAX),
             stops: self.stops,
         }
     }
 
-    fn up(&mut self) -> Crossing {
-        let crossing = if self.reading == i32::MAX {
-            Crossing::Overflow
-        } else {
-            Crossing::Within
-        };
+    fn up(&mut self) -> Option<Crossing> {
+        let at_high = self.reading == i32::MAX;
         self.reading = self.reading.wrapping_add(1);
-        crossing
+        at_high.then_some(Crossing::Overflow)
     }
 
-    fn down(&mut self) -> Crossing {
-        let crossing = if self.reading == i32::MIN {
-            Crossing::Underflow
-        } else {
-            Crossing::Within
-        };
+    fn down(&mut self) -> Option<Crossing> {
+        let at_low = self.reading == i32::MIN;
         self.reading = self.reading.wrapping_sub(1);
-        crossing
+        at_low.then_some(Crossing::Underflow)
     }
 
     fn set_load(&mut self, load: i32) -> Result<(), OutsideLimits> {

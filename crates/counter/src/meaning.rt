@@ -1,30 +1,30 @@
 // What a counter means, as plain values.
 ghost use Rattle.std.specs.Prelude.{◌≡◌};
-ghost use Rattle.counter.specs.Counting.{fixed, on_load};
+ghost use Rattle.counter.specs.Counting.{lands_on, follows_load};
 
-// Where a counter lands when it crosses a limit, and whether a new load moves that.
+// Where a counter lands when it crosses a limit: on a reading that stays, or on the load, and then
+// a new load moves it.
 #[derive(Clone, Copy)]
-pub struct Landing {
-    pub at: i32,
-    pub follows: bool,
+pub enum Landing {
+    Fixed(i32),
+    OnLoad(i32),
 }
 
 impl Landing {
-    // A landing that stays where it is.
-    pub fn fixed(at: i32) -> Landing
-        ensures { result ≡ fixed at }
+    // The reading on which it lands.
+    pub fn at(self) -> i32
+        ensures { result ≡ lands_on self }
     {
-        Landing { at, follows: false }
+        match self {
+            Landing::Fixed(reading) | Landing::OnLoad(reading) => reading,
+        }
     }
 
-    // A landing that follows the load.
-    pub fn on_load(load: i32) -> Landing
-        ensures { result ≡ on_load load }
+    // Whether a new load moves it.
+    pub fn follows_load(self) -> bool
+        ensures { result ≡ follows_load self }
     {
-        Landing {
-            at: load,
-            follows: true,
-        }
+        matches!(self, Landing::OnLoad(_))
     }
 }
 
@@ -41,12 +41,11 @@ pub struct Meaning {
     pub stops: bool,
 }
 
-// What one pulse did at the limits.
+// The limit that a pulse crossed.
 #[derive(Clone, Copy, PartialEq, Eq, Debug)]
 pub enum Crossing {
     Overflow,
     Underflow,
-    Within,
 }
 
 // A new load was refused: it lies outside the counter's limits.

@@ -1,8 +1,7 @@
 // Counts between the ends of the 32-bit range, and goes on from the load at either.
 ghost use Rattle.std.specs.Prelude.{◌≡◌};
-ghost use Rattle.counter.specs.Counting.{LOW, HIGH, Between};
+ghost use Rattle.counter.specs.Counting.{Sound};
 ghost use Rattle.counter.specs.Rows.{periodic};
-ghost use Rattle.std.proofs.Common.{rules};
 
 use crate::counter::Counter;
 use crate::meaning::{Crossing, Landing, Meaning, OutsideLimits};
@@ -12,8 +11,7 @@ use crate::steps::{step_down, step_up};
 pub struct Periodic {
     reading: i32,
     load: i32,
-    ghost readable: { Between LOW reading HIGH },
-    ghost loadable: { Between LOW load HIGH },
+    ghost sound: { Sound (periodic reading load) },
 }
 
 impl Periodic {
@@ -30,7 +28,7 @@ impl Periodic {
 impl Counter for Periodic {
     ghost means = { λ c. periodic c.reading c.load };
 
-    ghost sound = { Prim.search rules };
+    ghost sound = { λ c. c.sound };
 
     fn meaning(&self) -> Meaning {
         Meaning {
@@ -38,17 +36,17 @@ impl Counter for Periodic {
             low: i32::MIN,
             high: i32::MAX,
             load: self.load,
-            overflow: Landing::on_load(self.load),
-            underflow: Landing::on_load(self.load),
+            overflow: Landing::OnLoad(self.load),
+            underflow: Landing::OnLoad(self.load),
             stops: false,
         }
     }
 
-    fn up(&mut self) -> Crossing {
+    fn up(&mut self) -> Option<Crossing> {
         step_up(&mut self.reading, i32::MAX, self.load)
     }
 
-    fn down(&mut self) -> Crossing {
+    fn down(&mut self) -> Option<Crossing> {
         step_down(&mut self.reading, i32::MIN, self.load)
     }
 

@@ -1,8 +1,6 @@
 // The counter that settings pick: one kind for each line of the table.
-ghost use Rattle.counter.specs.Picked.{picked_means};
+ghost use Rattle.counter.specs.Picked.{picked_means, picked_sound};
 ghost use Rattle.counter.specs.Rows.{row, row_fits, Makes};
-ghost use Rattle.std.proofs.Common.{rules};
-ghost use Rattle.counter.specs.declared.picked.PickedCounter.TheVariants.{FullRange, Periodic, Upward, Downward};
 
 use crate::counter::Counter;
 use crate::downward::Downward;
@@ -29,55 +27,26 @@ impl PickedCounter {
         if end < 2 {
             return None;
         }
+        let stops = mode.stops();
         let picked = match (mode, direction) {
-            (Mode::Endless, MainDirection::Neither) => PickedCounter::FullRange(FullRange::endless(
-                load,
-            )),
-            (Mode::Endless, _) => return None,
-            (Mode::Once, MainDirection::Neither) => PickedCounter::FullRange(FullRange::once(load)),
-            (Mode::Once, MainDirection::Up) => PickedCounter::Upward(Upward::once(end, load)?),
-            (Mode::Once, MainDirection::Down) => PickedCounter::Downward(Downward::once(
-                end, load,
-            )?),
-            (Mode::Periodic, MainDirection::Neither) => PickedCounter::Periodic(Periodic::new(
-                load,
-            )),
-            (Mode::Periodic, MainDirection::Up) => PickedCounter::Upward(Upward::periodic(
-                end, load,
-            )?),
-            (Mode::Periodic, MainDirection::Down) => {
-                PickedCounter::Downward(Downward::periodic(end, load)?)
+            (Mode::Endless, MainDirection::Up | MainDirection::Down) => return None,
+            (Mode::Endless | Mode::Once, MainDirection::Neither) => {
+                PickedCounter::FullRange(FullRange::new(load, stops))
             }
+            (Mode::Periodic, MainDirection::Neither) => {
+                PickedCounter::Periodic(Periodic::new(load))
+            }
+            (_, MainDirection::Up) => PickedCounter::Upward(Upward::new(end, load, stops)?),
+            (_, MainDirection::Down) => PickedCounter::Downward(Downward::new(end, load, stops)?),
         };
         Some(picked)
     }
 }
 
-// Changes the kind that is there, and answers what the change answers.
-macro_rules! in_place {
-    ($picked:ident, $c:ident => $change:expr) => {
-        in_place!($picked, $c => $change, FullRange Periodic Upward Downward)
-    };
-    ($picked:ident, $c:ident => $change:expr, $($kind:ident)*) => {
-        match *$picked {
-            $(PickedCounter::$kind(mut $c) => {
-                let answer = $change;
-                *$picked = PickedCounter::$kind($c);
-                answer
-            })*
-        }
-    };
-}
-
 impl Counter for PickedCounter {
     ghost means = { picked_means };
 
-    ghost sound = { elim [
-      | FullRange c ↦ Prim.search rules
-      | Periodic c ↦ Prim.search rules
-      | Upward c ↦ Prim.search rules
-      | Downward c ↦ Prim.search rules
-    ] };
+    ghost sound = { picked_sound };
 
     fn meaning(&self) -> Meaning {
         match self {
@@ -88,19 +57,39 @@ impl Counter for PickedCounter {
         }
     }
 
-    fn up(&mut self) -> Crossing {
-        in_place!(self, c => c.up())
+    fn up(&mut self) -> Option<Crossing> {
+        match self {
+            PickedCounter::FullRange(c) => c.up(),
+            PickedCounter::Periodic(c) => c.up(),
+            PickedCounter::Upward(c) => c.up(),
+            PickedCounter::Downward(c) => c.up(),
+        }
     }
 
-    fn down(&mut self) -> Crossing {
-        in_place!(self, c => c.down())
+    fn down(&mut self) -> Option<Crossing> {
+        match self {
+            PickedCounter::FullRange(c) => c.down(),
+            PickedCounter::Periodic(c) => c.down(),
+            PickedCounter::Upward(c) => c.down(),
+            PickedCounter::Downward(c) => c.down(),
+        }
     }
 
     fn set_load(&mut self, load: i32) -> Result<(), OutsideLimits> {
-        in_place!(self, c => c.set_load(load))
+        match self {
+            PickedCounter::FullRange(c) => c.set_load(load),
+            PickedCounter::Periodic(c) => c.set_load(load),
+            PickedCounter::Upward(c) => c.set_load(load),
+            PickedCounter::Downward(c) => c.set_load(load),
+        }
     }
 
     fn put(&mut self) {
-        in_place!(self, c => c.put())
+        match self {
+            PickedCounter::FullRange(c) => c.put(),
+            PickedCounter::Periodic(c) => c.put(),
+            PickedCounter::Upward(c) => c.put(),
+            PickedCounter::Downward(c) => c.put(),
+        }
     }
 }

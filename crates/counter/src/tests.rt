@@ -10,16 +10,16 @@ use crate::upward::Upward;
 use std::test::Fail;
 
 // The pulses, one after the other: the reading after the last, and its crossing.
-fn ups<C: Counter>(counter: &mut C, pulses: u8) -> (i32, Crossing) {
-    let mut crossing = Crossing::Within;
+fn ups<C: Counter>(counter: &mut C, pulses: u8) -> (i32, Option<Crossing>) {
+    let mut crossing = None;
     for _ in 0..pulses {
         crossing = counter.up();
     }
     (counter.meaning().reading, crossing)
 }
 
-fn downs<C: Counter>(counter: &mut C, pulses: u8) -> (i32, Crossing) {
-    let mut crossing = Crossing::Within;
+fn downs<C: Counter>(counter: &mut C, pulses: u8) -> (i32, Option<Crossing>) {
+    let mut crossing = None;
     for _ in 0..pulses {
         crossing = counter.down();
     }
@@ -28,20 +28,32 @@ fn downs<C: Counter>(counter: &mut C, pulses: u8) -> (i32, Crossing) {
 
 #[test]
 fn endless_goes_round(rt: HostRuntime) {
-    let mut counter = FullRange::endless(2147483646);
-    assert_eq!(rt; ups(&mut counter, 1), (2147483647, Crossing::Within));
-    assert_eq!(rt; ups(&mut counter, 1), (-2147483648, Crossing::Overflow));
-    assert_eq!(rt; downs(&mut counter, 1), (2147483647, Crossing::Underflow));
+    let mut counter = FullRange::new(2147483646, false);
+    assert_eq!(rt; ups(&mut counter, 1), (2147483647, None));
+    assert_eq!(rt;
+        ups(&mut counter, 1),
+        (-2147483648, Some(Crossing::Overflow))
+    );
+    assert_eq!(rt;
+        downs(&mut counter, 1),
+        (2147483647, Some(Crossing::Underflow))
+    );
     counter.put();
     assert_eq!(rt; counter.meaning().reading, 2147483646);
 }
 
 #[test]
 fn once_stops_and_lands_at_the_other_end(rt: HostRuntime) {
-    let mut counter = FullRange::once(-2147483648);
+    let mut counter = FullRange::new(-2147483648, true);
     assert!(rt; counter.meaning().stops);
-    assert_eq!(rt; downs(&mut counter, 1), (2147483647, Crossing::Underflow));
-    assert_eq!(rt; ups(&mut counter, 1), (-2147483648, Crossing::Overflow));
+    assert_eq!(rt;
+        downs(&mut counter, 1),
+        (2147483647, Some(Crossing::Underflow))
+    );
+    assert_eq!(rt;
+        ups(&mut counter, 1),
+        (-2147483648, Some(Crossing::Overflow))
+    );
 }
 
 #[test]
@@ -49,44 +61,44 @@ fn periodic_lands_on_its_load_from_both_ends(rt: HostRuntime) {
     let mut counter = Periodic::new(2147483647);
     assert_eq!(rt; counter.set_load(-7), Ok(()));
     assert_eq!(rt; counter.meaning().reading, 2147483647);
-    assert_eq!(rt; ups(&mut counter, 1), (-7, Crossing::Overflow));
+    assert_eq!(rt; ups(&mut counter, 1), (-7, Some(Crossing::Overflow)));
     assert_eq!(rt; counter.set_load(-2147483648), Ok(()));
     counter.put();
     assert_eq!(rt; counter.set_load(12), Ok(()));
-    assert_eq!(rt; downs(&mut counter, 1), (12, Crossing::Underflow));
+    assert_eq!(rt; downs(&mut counter, 1), (12, Some(Crossing::Underflow)));
 }
 
 #[test]
 fn upward_from_load_three_to_end_ten(rt: HostRuntime) -> Result<(), Fail> {
-    let Some(mut counter) = Upward::periodic(10, 3) else {
+    let Some(mut counter) = Upward::new(10, 3, false) else {
         return Err(Fail::new("refused"));
     };
-    assert_eq!(rt; ups(&mut counter, 6), (9, Crossing::Within));
-    assert_eq!(rt; ups(&mut counter, 1), (3, Crossing::Overflow));
-    assert_eq!(rt; ups(&mut counter, 2), (5, Crossing::Within));
-    assert_eq!(rt; downs(&mut counter, 1), (4, Crossing::Within));
+    assert_eq!(rt; ups(&mut counter, 6), (9, None));
+    assert_eq!(rt; ups(&mut counter, 1), (3, Some(Crossing::Overflow)));
+    assert_eq!(rt; ups(&mut counter, 2), (5, None));
+    assert_eq!(rt; downs(&mut counter, 1), (4, None));
     assert_eq!(rt; counter.set_load(10), Err(OutsideLimits));
     assert_eq!(rt; counter.meaning().load, 3);
     assert_eq!(rt; counter.set_load(-2147483648), Ok(()));
     counter.put();
-    assert_eq!(rt; downs(&mut counter, 1), (9, Crossing::Underflow));
+    assert_eq!(rt; downs(&mut counter, 1), (9, Some(Crossing::Underflow)));
     Ok(())
 }
 
 #[test]
 fn downward_from_load_five_to_one(rt: HostRuntime) -> Result<(), Fail> {
-    let Some(mut counter) = Downward::once(8, 5) else {
+    let Some(mut counter) = Downward::new(8, 5, true) else {
         return Err(Fail::new("refused"));
     };
     assert!(rt; counter.meaning().stops);
-    assert_eq!(rt; downs(&mut counter, 4), (1, Crossing::Within));
-    assert_eq!(rt; downs(&mut counter, 1), (5, Crossing::Underflow));
-    assert_eq!(rt; ups(&mut counter, 3), (8, Crossing::Within));
-    assert_eq!(rt; ups(&mut counter, 1), (1, Crossing::Overflow));
+    assert_eq!(rt; downs(&mut counter, 4), (1, None));
+    assert_eq!(rt; downs(&mut counter, 1), (5, Some(Crossing::Underflow)));
+    assert_eq!(rt; ups(&mut counter, 3), (8, None));
+    assert_eq!(rt; ups(&mut counter, 1), (1, Some(Crossing::Overflow)));
     assert_eq!(rt; counter.set_load(0), Err(OutsideLimits));
     assert_eq!(rt; counter.set_load(9), Err(OutsideLimits));
     assert_eq!(rt; counter.set_load(8), Ok(()));
-    assert_eq!(rt; downs(&mut counter, 1), (8, Crossing::Underflow));
+    assert_eq!(rt; downs(&mut counter, 1), (8, Some(Crossing::Underflow)));
     Ok(())
 }
 
@@ -131,13 +143,13 @@ fn picked_counts_as_its_kind(rt: HostRuntime) -> Result<(), Fail> {
     let Some(mut up) = PickedCounter::new(Mode::Periodic, MainDirection::Up, 10, 3) else {
         return Err(Fail::new("refused"));
     };
-    assert_eq!(rt; ups(&mut up, 9), (5, Crossing::Within));
+    assert_eq!(rt; ups(&mut up, 9), (5, None));
     let Some(mut free) = PickedCounter::new(Mode::Periodic, MainDirection::Neither, 2, 4) else {
         return Err(Fail::new("refused"));
     };
-    assert_eq!(rt; ups(&mut free, 3), (7, Crossing::Within));
+    assert_eq!(rt; ups(&mut free, 3), (7, None));
     assert_eq!(rt; free.set_load(-5), Ok(()));
     free.put();
-    assert_eq!(rt; downs(&mut free, 2), (-7, Crossing::Within));
+    assert_eq!(rt; downs(&mut free, 2), (-7, None));
     Ok(())
 }

@@ -1,8 +1,7 @@
 // Counts with up as its main direction: to one below the end value, and then from the load.
-ghost use Rattle.std.specs.Prelude.{◌≡◌, true, false, pos, ◌-ℤ◌};
-ghost use Rattle.counter.specs.Counting.{LOW, HIGH, Between};
+ghost use Rattle.std.specs.Prelude.{◌≡◌, pos, ◌-ℤ◌};
+ghost use Rattle.counter.specs.Counting.{HIGH, Between, Sound};
 ghost use Rattle.counter.specs.Rows.{upward, upward_fits, Makes};
-ghost use Rattle.std.proofs.Common.{rules};
 
 use crate::counter::Counter;
 use crate::meaning::{Crossing, Landing, Meaning, OutsideLimits};
@@ -15,26 +14,12 @@ pub struct Upward {
     end: i32,
     stops: bool,
     ghost ends: { Between (pos 2) end HIGH },
-    ghost readable: { Between LOW reading (end -ℤ pos 1) },
-    ghost loadable: { Between LOW load (end -ℤ pos 1) },
+    ghost sound: { Sound (upward stops end reading load) },
 }
 
 impl Upward {
-    // Stops at a crossing. The end value must be at least 2, and the load within the limits.
-    pub fn once(end: i32, load: i32) -> Option<Upward>
-        ensures { Makes (λ c. upward c.stops c.end c.reading c.load) result (upward_fits end load) (upward true end load load) }
-    {
-        Upward::new(end, load, true)
-    }
-
-    // Goes on at a crossing.
-    pub fn periodic(end: i32, load: i32) -> Option<Upward>
-        ensures { Makes (λ c. upward c.stops c.end c.reading c.load) result (upward_fits end load) (upward false end load load) }
-    {
-        Upward::new(end, load, false)
-    }
-
-    fn new(end: i32, load: i32, stops: bool) -> Option<Upward>
+    // Stops or goes on at a crossing. The end value must be at least 2, and the load within the limits.
+    pub fn new(end: i32, load: i32, stops: bool) -> Option<Upward>
         ensures { Makes (λ c. upward c.stops c.end c.reading c.load) result (upward_fits end load) (upward stops end load load) }
     {
         if end < 2 || load >= end {
@@ -59,7 +44,7 @@ impl Upward {
 impl Counter for Upward {
     ghost means = { λ c. upward c.stops c.end c.reading c.load };
 
-    ghost sound = { Prim.search rules };
+    ghost sound = { λ c. c.sound };
 
     fn meaning(&self) -> Meaning {
         Meaning {
@@ -67,18 +52,18 @@ impl Counter for Upward {
             low: i32::MIN,
             high: self.last(),
             load: self.load,
-            overflow: Landing::on_load(self.load),
-            underflow: Landing::fixed(self.last()),
+            overflow: Landing::OnLoad(self.load),
+            underflow: Landing::Fixed(self.last()),
             stops: self.stops,
         }
     }
 
-    fn up(&mut self) -> Crossing {
+    fn up(&mut self) -> Option<Crossing> {
         let last = self.last();
         step_up(&mut self.reading, last, self.load)
     }
 
-    fn down(&mut self) -> Crossing {
+    fn down(&mut self) -> Option<Crossing> {
         let last = self.last();
         step_down(&mut self.reading, i32::MIN, last)
     }

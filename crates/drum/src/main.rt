@@ -3,7 +3,7 @@
 
 use anyhow::anyhow;
 use counter::{Counter, FullRange};
-use encoder::{Evaluation, Quadruple};
+use encoder::{Evaluation, PickedEvaluation, Quadruple};
 use std::io::{BufRead, BufReader, ErrorKind};
 use winding::{Wheel, Winding, bears_data, read_wheel, wind_line};
 
@@ -12,9 +12,9 @@ fn main(rt: HostRuntime) -> anyhow::Result<()> {
 }
 
 fn run(rt: &HostRuntime) -> anyhow::Result<()> {
-    let mut winding = Winding::new(Quadruple, FullRange::endless(0));
+    let mut winding = Winding::new(Quadruple, FullRange::new(0, false));
     let wheel = wind_all(rt, &mut winding)?;
-    let bill = winding.bill(&wheel);
+    let bill = winding.bill(&wheel, PickedEvaluation::Quadruple);
     println!(rt; "{bill}")?;
     Ok(())
 }

@@ -1,8 +1,8 @@
 -- What an evaluation answers from an old and a new pair.
-use Rattle.std.specs.Prelude.{◌≡◌, Bool, true, false, ℤ, pos, negsuc}
+use Rattle.std.specs.Prelude.{◌≡◌, Bool, true, false, ℤ, pos, negsuc, Some, None, Option}
 use Rattle.encoder.specs.declared.lines.Pair.{Pair}
-use Rattle.encoder.specs.declared.evaluation.Answer.{Answer}
-use Rattle.encoder.specs.declared.evaluation.Answer.TheVariants.{Up, Down, Nothing}
+use Rattle.encoder.specs.declared.evaluation.Pulse.{Pulse}
+use Rattle.encoder.specs.declared.evaluation.Pulse.TheVariants.{Up, Down}
 use Rattle.encoder.specs.Lines.{opposite, invert_b}
 
 -- what happened from one pair to the next: A or B rose or fell while the other line stood at a level, or neither did alone,
@@ -39,48 +39,48 @@ change old new = change_by old.a old.b new.a new.b
 
 -- all that an evaluation means: its answer to each old and new pair
 abbrev pub Answers : Type 0
-Answers = Pair → Pair → Answer
+Answers = Pair → Pair → Option Pulse
 
 -- A rising is up with B low and down with B high; all else is nothing
-abbrev pulse_direction_at : Change → Answer
-pulse_direction_at (a_rises_at_b false) = Up
-pulse_direction_at (a_rises_at_b true) = Down
-pulse_direction_at (a_falls_at_b b) = Nothing
-pulse_direction_at (b_rises_at_a a) = Nothing
-pulse_direction_at (b_falls_at_a a) = Nothing
-pulse_direction_at neither = Nothing
+abbrev pulse_direction_at : Change → Option Pulse
+pulse_direction_at (a_rises_at_b false) = Some Up
+pulse_direction_at (a_rises_at_b true) = Some Down
+pulse_direction_at (a_falls_at_b b) = None
+pulse_direction_at (b_rises_at_a a) = None
+pulse_direction_at (b_falls_at_a a) = None
+pulse_direction_at neither = None
 
 -- with B low, A rising is up and A falling is down; all else is nothing
-abbrev single_at : Change → Answer
-single_at (a_rises_at_b false) = Up
-single_at (a_rises_at_b true) = Nothing
-single_at (a_falls_at_b false) = Down
-single_at (a_falls_at_b true) = Nothing
-single_at (b_rises_at_a a) = Nothing
-single_at (b_falls_at_a a) = Nothing
-single_at neither = Nothing
+abbrev single_at : Change → Option Pulse
+single_at (a_rises_at_b false) = Some Up
+single_at (a_rises_at_b true) = None
+single_at (a_falls_at_b false) = Some Down
+single_at (a_falls_at_b true) = None
+single_at (b_rises_at_a a) = None
+single_at (b_falls_at_a a) = None
+single_at neither = None
 
 -- as single, and with B high A falling is up and A rising is down
-abbrev double_at : Change → Answer
-double_at (a_rises_at_b false) = Up
-double_at (a_rises_at_b true) = Down
-double_at (a_falls_at_b false) = Down
-double_at (a_falls_at_b true) = Up
-double_at (b_rises_at_a a) = Nothing
-double_at (b_falls_at_a a) = Nothing
-double_at neither = Nothing
+abbrev double_at : Change → Option Pulse
+double_at (a_rises_at_b false) = Some Up
+double_at (a_rises_at_b true) = Some Down
+double_at (a_falls_at_b false) = Some Down
+double_at (a_falls_at_b true) = Some Up
+double_at (b_rises_at_a a) = None
+double_at (b_falls_at_a a) = None
+double_at neither = None
 
 -- each step in the order 00, 10, 11, 01, 00 (A before B) is up, and each step back is down
-abbrev quadruple_at : Change → Answer
-quadruple_at (a_rises_at_b false) = Up
-quadruple_at (a_rises_at_b true) = Down
-quadruple_at (a_falls_at_b false) = Down
-quadruple_at (a_falls_at_b true) = Up
-quadruple_at (b_rises_at_a false) = Down
-quadruple_at (b_rises_at_a true) = Up
-quadruple_at (b_falls_at_a false) = Up
-quadruple_at (b_falls_at_a true) = Down
-quadruple_at neither = Nothing
+abbrev quadruple_at : Change → Option Pulse
+quadruple_at (a_rises_at_b false) = Some Up
+quadruple_at (a_rises_at_b true) = Some Down
+quadruple_at (a_falls_at_b false) = Some Down
+quadruple_at (a_falls_at_b true) = Some Up
+quadruple_at (b_rises_at_a false) = Some Down
+quadruple_at (b_rises_at_a true) = Some Up
+quadruple_at (b_falls_at_a false) = Some Up
+quadruple_at (b_falls_at_a true) = Some Down
+quadruple_at neither = None
 
 -- what the four evaluations answer, by the change alone
 abbrev pub pulse_direction : Answers
@@ -101,8 +101,8 @@ inverted answers old new = answers (invert_b old) (invert_b new)
 
 -- an evaluation answers nothing when no line changed, and nothing when both did
 pub record Silent (answers : Answers) : Type 0 where
-  pub unchanged : (p : Pair) → answers p p ≡ Nothing
-  pub both_changed : (p : Pair) → answers p (opposite p) ≡ Nothing
+  pub unchanged : (p : Pair) → answers p p ≡ None
+  pub both_changed : (p : Pair) → answers p (opposite p) ≡ None
 
 -- so does the stage over it
 pub inverted_silent : (answers : Answers) → Silent answers → Silent (inverted answers)
@@ -110,7 +110,7 @@ inverted_silent answers silent =
     record { unchanged = λ p. silent.unchanged (invert_b p); both_changed = λ p. silent.both_changed (invert_b p) }
 
 -- what an answer is worth in pulses
-abbrev pub worth : Answer → ℤ
-worth Up = pos 1
-worth Down = negsuc 0
-worth Nothing = pos 0
+abbrev pub worth : Option Pulse → ℤ
+worth (Some Up) = pos 1
+worth (Some Down) = negsuc 0
+worth None = pos 0

@@ -1,7 +1,8 @@
 -- The lines of an encoder: the pair of A and B, and the level byte of a sample.
-use Rattle.std.specs.Prelude.{ℕ, ◌/◌, ◌%◌, Bool, true, false, cond, not, ◌&&◌, Some, None, Option, ◌==◌, nat_lt}
+use Rattle.std.specs.Prelude.{◌≡◌, ℕ, ◌/◌, ◌%◌, Bool, true, false, cond, not, ◌&&◌, Some, None, Ok, Err, Option, Result, ◌==◌, nat_lt}
 use Rattle.encoder.specs.declared.lines.Pair.{Pair}
 use Rattle.encoder.specs.declared.lines.Levels.{Levels}
+use Rattle.encoder.specs.declared.lines.NoLevelByte.{NoLevelByte}
 
 -- A and B at these levels
 abbrev pub pair : Bool → Bool → Pair
@@ -35,3 +36,8 @@ levels_in n = record { pair = pair (odd n) (odd (n / 2)); di = odd (n / 4) }
 -- a level byte above 7 says nothing
 abbrev pub levels_of : ℕ → Option Levels
 levels_of n = cond (nat_lt n 8) (Some (levels_in n)) None
+
+-- the levels of a byte, or the error that it has none
+abbrev pub LevelsOf : ℕ → Result Levels NoLevelByte → Type 0
+LevelsOf n (Ok levels) = levels_of n ≡ Some levels
+LevelsOf n (Err e) = levels_of n ≡ None

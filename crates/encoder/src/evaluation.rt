@@ -5,19 +5,19 @@ ghost use Rattle.encoder.specs.Places.{StepLaw};
 
 use crate::lines::Pair;
 
+// The direction of a pulse.
 #[derive(Clone, Copy, PartialEq, Eq, Debug)]
-pub enum Answer {
+pub enum Pulse {
     Up,
     Down,
-    Nothing,
 }
 
-// Answers up, down or nothing from an old and a new pair, and from nothing else.
+// Answers a pulse or none from an old and a new pair, and from nothing else.
 pub trait Evaluation {
     // what it answers to an old and a new pair
     ghost answers: { Self → Answers };
 
-    fn evaluate(&self, old: Pair, new: Pair) -> Answer
+    fn evaluate(&self, old: Pair, new: Pair) -> Option<Pulse>
         ensures { result ≡ answers self.now old new };
 
     ghost silent: { (e : Self) → Silent (answers e) };

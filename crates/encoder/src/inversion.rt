@@ -4,7 +4,7 @@ ghost use Rattle.encoder.specs.Evaluations.{inverted, inverted_silent};
 ghost use Rattle.encoder.specs.Places.{inverted_height};
 ghost use Rattle.encoder.specs.Picked.{with_stage, staged_answers, staged_silent, staged_height};
 
-use crate::evaluation::{Answer, Evaluation, Rotary};
+use crate::evaluation::{Evaluation, Pulse, Rotary};
 use crate::lines::Pair;
 
 // Any evaluation with B inverted before it.
@@ -18,7 +18,7 @@ impl<E: Evaluation> Evaluation for Inverted<E> {
 
     ghost silent = { λ e. inverted_silent (E.Evaluation.answers e.inner) (E.Evaluation.silent e.inner) };
 
-    fn evaluate(&self, old: Pair, new: Pair) -> Answer {
+    fn evaluate(&self, old: Pair, new: Pair) -> Option<Pulse> {
         self.inner
             .evaluate(old.with_b_inverted(), new.with_b_inverted())
     }
@@ -56,7 +56,7 @@ impl<E: Evaluation> Evaluation for Staged<E> {
 
     ghost silent = { staged_silent E.Evaluation.answers E.Evaluation.silent };
 
-    fn evaluate(&self, old: Pair, new: Pair) -> Answer {
+    fn evaluate(&self, old: Pair, new: Pair) -> Option<Pulse> {
         match self {
             Staged::Direct(inner) => inner.evaluate(old, new),
             Staged::Inverted(inner) => inner.evaluate(old, new),

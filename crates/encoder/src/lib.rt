@@ -13,9 +13,9 @@ mod single;
 mod tests;
 
 pub use double::Double;
-pub use evaluation::{Answer, Evaluation, Rotary};
+pub use evaluation::{Evaluation, Pulse, Rotary};
 pub use inversion::{Inverted, Staged};
-pub use lines::{Levels, Pair};
+pub use lines::{Levels, NoLevelByte, Pair};
 pub use picked::PickedEvaluation;
 pub use pulse_direction::PulseDirection;
 pub use quadruple::Quadruple;

@@ -1,6 +1,6 @@
 // The levels of the lines A, B and DI.
 ghost use Rattle.std.specs.Prelude.{◌≡◌};
-ghost use Rattle.encoder.specs.Lines.{invert_b, both_differ, levels_of};
+ghost use Rattle.encoder.specs.Lines.{invert_b, both_differ, LevelsOf};
 
 // The levels of A and B; true is high.
 #[derive(Clone, Copy, PartialEq, Eq, Debug)]
@@ -34,19 +34,25 @@ pub struct Levels {
     pub di: bool,
 }
 
-impl Levels {
-    // The levels in a level byte: A is bit 0, B bit 1, DI bit 2, and no other bit may be set.
-    pub fn from_byte(byte: u8) -> Option<Levels>
-        ensures { result ≡ levels_of byte }
-    {
+// A byte with a bit set beside the three levels.
+#[derive(Clone, Copy, PartialEq, Eq, Debug)]
+pub struct NoLevelByte;
+
+impl TryFrom<u8> for Levels {
+    type Error = NoLevelByte;
+
+    ghost try_from_gives = { LevelsOf };
+
+    // A is bit 0, B bit 1, DI bit 2, and no other bit may be set.
+    fn try_from(byte: u8) -> Result<Levels, NoLevelByte> {
         if byte > 7 {
-            return None;
+            return Err(NoLevelByte);
         }
         let pair = Pair {
             a: byte % 2 == 1,
             b: byte / 2 % 2 == 1,
         };
-        Some(Levels {
+        Ok(Levels {
             pair,
             di: byte / 4 % 2 == 1,
         })

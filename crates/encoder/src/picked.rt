@@ -3,7 +3,7 @@ ghost use Rattle.encoder.specs.Picked.{picked_answers};
 ghost use Rattle.std.proofs.Common.{rules};
 
 use crate::double::Double;
-use crate::evaluation::{Answer, Evaluation};
+use crate::evaluation::{Evaluation, Pulse};
 use crate::lines::Pair;
 use crate::pulse_direction::PulseDirection;
 use crate::quadruple::Quadruple;
@@ -22,7 +22,7 @@ impl Evaluation for PickedEvaluation {
 
     ghost silent = { Prim.search rules };
 
-    fn evaluate(&self, old: Pair, new: Pair) -> Answer {
+    fn evaluate(&self, old: Pair, new: Pair) -> Option<Pulse> {
         match self {
             PickedEvaluation::PulseDirection => PulseDirection.evaluate(old, new),
             PickedEvaluation::Single => Single.evaluate(old, new),

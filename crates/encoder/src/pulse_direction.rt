@@ -2,7 +2,7 @@
 ghost use Rattle.encoder.specs.Evaluations.{pulse_direction};
 ghost use Rattle.std.proofs.Common.{rules};
 
-use crate::evaluation::{Answer, Evaluation};
+use crate::evaluation::{Evaluation, Pulse};
 use crate::lines::Pair;
 
 #[derive(Clone, Copy)]
@@ -13,11 +13,11 @@ impl Evaluation for PulseDirection {
 
     ghost silent = { Prim.search rules };
 
-    fn evaluate(&self, old: Pair, new: Pair) -> Answer {
+    fn evaluate(&self, old: Pair, new: Pair) -> Option<Pulse> {
         match (old.a, new.a, old.b, new.b) {
-            (false, true, false, false) => Answer::Up,
-            (false, true, true, true) => Answer::Down,
-            _ => Answer::Nothing,
+            (false, true, false, false) => Some(Pulse::Up),
+            (false, true, true, true) => Some(Pulse::Down),
+            _ => None,
         }
     }
 }

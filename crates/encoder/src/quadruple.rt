@@ -3,7 +3,7 @@ ghost use Rattle.encoder.specs.Evaluations.{quadruple};
 ghost use Rattle.encoder.specs.Places.{quadruple_height};
 ghost use Rattle.std.proofs.Common.{rules};
 
-use crate::evaluation::{Answer, Evaluation, Rotary};
+use crate::evaluation::{Evaluation, Pulse, Rotary};
 use crate::lines::Pair;
 
 #[derive(Clone, Copy)]
@@ -14,17 +14,17 @@ impl Evaluation for Quadruple {
 
     ghost silent = { Prim.search rules };
 
-    fn evaluate(&self, old: Pair, new: Pair) -> Answer {
+    fn evaluate(&self, old: Pair, new: Pair) -> Option<Pulse> {
         match (old.a, old.b, new.a, new.b) {
             (false, false, true, false)
             | (true, false, true, true)
             | (true, true, false, true)
-            | (false, true, false, false) => Answer::Up,
+            | (false, true, false, false) => Some(Pulse::Up),
             (true, false, false, false)
             | (true, true, true, false)
             | (false, true, true, true)
-            | (false, false, false, true) => Answer::Down,
-            _ => Answer::Nothing,
+            | (false, false, false, true) => Some(Pulse::Down),
+            _ => None,
         }
     }
 }

@@ -3,7 +3,7 @@ ghost use Rattle.encoder.specs.Evaluations.{single};
 ghost use Rattle.encoder.specs.Places.{single_height};
 ghost use Rattle.std.proofs.Common.{rules};
 
-use crate::evaluation::{Answer, Evaluation, Rotary};
+use crate::evaluation::{Evaluation, Pulse, Rotary};
 use crate::lines::Pair;
 
 #[derive(Clone, Copy)]
@@ -14,11 +14,11 @@ impl Evaluation for Single {
 
     ghost silent = { Prim.search rules };
 
-    fn evaluate(&self, old: Pair, new: Pair) -> Answer {
+    fn evaluate(&self, old: Pair, new: Pair) -> Option<Pulse> {
         match (old.a, new.a, old.b, new.b) {
-            (false, true, false, false) => Answer::Up,
-            (true, false, false, false) => Answer::Down,
-            _ => Answer::Nothing,
+            (false, true, false, false) => Some(Pulse::Up),
+            (true, false, false, false) => Some(Pulse::Down),
+            _ => None,
         }
     }
 }

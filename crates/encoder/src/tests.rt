@@ -1,8 +1,8 @@
 // Worked examples of each evaluation and of the inversion stage.
 use crate::double::Double;
-use crate::evaluation::{Answer, Evaluation};
+use crate::evaluation::{Evaluation, Pulse};
 use crate::inversion::Staged;
-use crate::lines::{Levels, Pair};
+use crate::lines::{Levels, NoLevelByte, Pair};
 use crate::picked::PickedEvaluation;
 use crate::pulse_direction::PulseDirection;
 use crate::quadruple::Quadruple;
@@ -28,9 +28,9 @@ fn pulses<E: Evaluation>(evaluation: &E, walk: &[Pair]) -> (u8, u8) {
     let mut down: u8 = 0;
     for step in walk.windows(2) {
         match evaluation.evaluate(step[0], step[1]) {
-            Answer::Up => up = up.saturating_add(1),
-            Answer::Down => down = down.saturating_add(1),
-            Answer::Nothing => {}
+            Some(Pulse::Up) => up = up.saturating_add(1),
+            Some(Pulse::Down) => down = down.saturating_add(1),
+            None => {}
         }
     }
     (up, down)
@@ -61,8 +61,8 @@ fn a_shaft_that_trembles(rt: HostRuntime) {
 fn both_lines_at_once_answer_nothing(rt: HostRuntime) {
     for (old, new) in [(P00, P11), (P11, P00), (P10, P01), (P01, P10)] {
         assert!(rt; old.both_differ(new));
-        assert_eq!(rt; Single.evaluate(old, new), Answer::Nothing);
-        assert_eq!(rt; Quadruple.evaluate(old, new), Answer::Nothing);
+        assert_eq!(rt; Single.evaluate(old, new), None);
+        assert_eq!(rt; Quadruple.evaluate(old, new), None);
     }
     assert!(rt; !P00.both_differ(P10));
 }
@@ -70,7 +70,7 @@ fn both_lines_at_once_answer_nothing(rt: HostRuntime) {
 #[test]
 fn inverted_b_turns_the_direction(rt: HostRuntime) {
     let inverted = Staged::new(Quadruple, true);
-    assert_eq!(rt; inverted.evaluate(P00, P10), Answer::Down);
+    assert_eq!(rt; inverted.evaluate(P00, P10), Some(Pulse::Down));
     assert_eq!(rt; pulses(&inverted, &TURN), (0, 4));
     assert_eq!(rt; pulses(&Staged::new(Quadruple, false), &TURN), (4, 0));
 }
@@ -89,18 +89,18 @@ fn picked_answers_as_its_kind(rt: HostRuntime) {
 #[test]
 fn level_bytes(rt: HostRuntime) {
     assert_eq!(rt;
-        Levels::from_byte(5),
-        Some(Levels {
+        Levels::try_from(5),
+        Ok(Levels {
             pair: P10,
             di: true,
         })
     );
     assert_eq!(rt;
-        Levels::from_byte(2),
-        Some(Levels {
+        Levels::try_from(2),
+        Ok(Levels {
             pair: P01,
             di: false,
         })
     );
-    assert_eq!(rt; Levels::from_byte(8), None);
+    assert_eq!(rt; Levels::try_from(8), Err(NoLevelByte));
 }

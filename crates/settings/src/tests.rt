@@ -418,7 +418,7 @@ fn what_is_picked(rt: HostRuntime) -> Result<(), Fail> {
     let meaning = parameters.counter().meaning();
     assert_eq!(rt; (meaning.reading, meaning.load), (3, 3));
     assert_eq!(rt; (meaning.low, meaning.high), (i32::MIN, 9));
-    assert_eq!(rt; (meaning.overflow.at, meaning.underflow.at), (3, 9));
+    assert_eq!(rt; (meaning.overflow.at(), meaning.underflow.at()), (3, 9));
     assert_eq!(rt; meaning.stops, false);
     // Double evaluation counts A rising with B low as up; behind the stage it is down.
     let low = Pair { a: false, b: false };

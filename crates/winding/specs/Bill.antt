@@ -6,13 +6,10 @@ use Rattle.encoder.specs.declared.inversion.Staged.{Staged}
 use Rattle.encoder.specs.declared.inversion.Staged.TheVariants as staged
 use Rattle.encoder.specs.declared.picked.PickedEvaluation.{PickedEvaluation}
 use Rattle.encoder.specs.declared.picked.PickedEvaluation.TheVariants.{PulseDirection, Single, Double, Quadruple}
+use Rattle.winding.specs.declared.bill.Bill.{Bill}
+use Rattle.winding.specs.declared.tally.Tally.{Tally}
 use Rattle.winding.specs.declared.wheel.Wheel.{Wheel}
 use Rattle.winding.specs.Winding.{Sums}
-
--- millimetres, rounded down: a turn of the wheel is its circumference in micrometres, and quadruple
--- evaluation counts four pulses a line
-abbrev pub millimetres : Wheel → ℤ → ℤ
-millimetres w reading = int_div_euclid (reading *ℤ pos w.circumference) (pos (4000 * w.lines))
 
 -- the evaluation behind the inversion stage, or without one
 abbrev pub evaluation_of : Staged PickedEvaluation → PickedEvaluation
@@ -26,10 +23,20 @@ pulses_per_turn w Single = w.lines
 pulses_per_turn w Double = 2 * w.lines
 pulses_per_turn w Quadruple = 4 * w.lines
 
--- millimetres, rounded down, where this evaluation counted the pulses
-abbrev pub millimetres_by_evaluation : Wheel → PickedEvaluation → ℤ → ℤ
-millimetres_by_evaluation w evaluation reading =
+-- millimetres, rounded down, where this evaluation counted the pulses: a turn of the wheel is its
+-- circumference in micrometres
+abbrev pub millimetres : Wheel → PickedEvaluation → ℤ → ℤ
+millimetres w evaluation reading =
     int_div_euclid (reading *ℤ pos w.circumference) (pos (1000 * pulses_per_turn w evaluation))
+
+-- the bill for a tally and a reading: length and time in thousandths, of metres and of seconds
+abbrev pub bill_of : Wheel → PickedEvaluation → Tally → ℤ → Bill
+bill_of w evaluation tally reading = record {
+  tally = tally;
+  reading = reading;
+  length = record { 0 = millimetres w evaluation reading };
+  time = record { 0 = pos (tally.elapsed / 1000) };
+}
 
 -- thousandths with the point: sign, whole part, three digits
 abbrev pub thousandths_text : ℤ → List ℕ

@@ -1,10 +1,10 @@
 -- What one sample does to a winding: the counter takes the pulse, and the tally notes the sample.
-use Rattle.std.specs.Prelude.{ℕ, ◌+◌, ◌^◌, Bool, cond, ◌&&◌, nat_lt}
+use Rattle.std.specs.Prelude.{ℕ, ◌+◌, ◌^◌, Bool, cond, ◌&&◌, Some, None, Option, nat_lt}
 use Rattle.counter.specs.declared.meaning.Meaning.{Meaning}
 use Rattle.counter.specs.Counting.{up, down}
 use Rattle.encoder.specs.declared.lines.Pair.{Pair}
-use Rattle.encoder.specs.declared.evaluation.Answer.{Answer}
-use Rattle.encoder.specs.declared.evaluation.Answer.TheVariants.{Up, Down, Nothing}
+use Rattle.encoder.specs.declared.evaluation.Pulse.{Pulse}
+use Rattle.encoder.specs.declared.evaluation.Pulse.TheVariants.{Up, Down}
 use Rattle.encoder.specs.Lines.{both_differ}
 use Rattle.encoder.specs.Evaluations.{Answers}
 use Rattle.winding.specs.declared.tally.Tally.{Tally}
@@ -27,18 +27,18 @@ abbrev pub no_sums : Sums
 no_sums = record { samples = 0; up = 0; down = 0; doubles = 0; elapsed = 0 }
 
 -- an answer counts as one pulse up, one down, or none
-abbrev ups : Answer → ℕ
-ups Up = 1
-ups Down = 0
-ups Nothing = 0
+abbrev ups : Option Pulse → ℕ
+ups (Some Up) = 1
+ups (Some Down) = 0
+ups None = 0
 
-abbrev downs : Answer → ℕ
-downs Up = 0
-downs Down = 1
-downs Nothing = 0
+abbrev downs : Option Pulse → ℕ
+downs (Some Up) = 0
+downs (Some Down) = 1
+downs None = 0
 
 -- one sample more: its pulse, whether both lines changed, and its time
-abbrev pub noted : Answer → Bool → ℕ → Sums → Sums
+abbrev pub noted : Option Pulse → Bool → ℕ → Sums → Sums
 noted answer both time s = record { samples = s.samples + 1; up = s.up + ups answer; down = s.down + downs answer; doubles = s.doubles + cond both 1 0; elapsed = s.elapsed + time }
 
 -- the sums, of 64 bits each, have room for one sample more
@@ -56,10 +56,10 @@ abbrev pub state_of : {E C : Type 0} → (C → Meaning) → Winding E C → Sta
 state_of means w = record { counter = means w.counter; pair = w.pair; sums = sums_of w.tally }
 
 -- the counter after an answer
-abbrev counted : Answer → Meaning → Meaning
-counted Up m = up m
-counted Down m = down m
-counted Nothing m = m
+abbrev counted : Option Pulse → Meaning → Meaning
+counted (Some Up) m = up m
+counted (Some Down) m = down m
+counted None m = m
 
 -- one sample: its pulse is counted, its pair is kept for the next, and the tally notes it
 abbrev pub wound : Answers → Sample → State → State

@@ -1,6 +1,6 @@
 // The bill of a winding.
 ghost use Rattle.std.specs.Prelude.{◌≡◌, ◌/◌, ◌^◌, ◌<◌, pos, ◌*ℤ◌, Some};
-ghost use Rattle.winding.specs.Bill.{pulses_per_turn, evaluation_of, millimetres, millimetres_by_evaluation, thousandths_text, tally_text, bill_text};
+ghost use Rattle.winding.specs.Bill.{pulses_per_turn, evaluation_of, millimetres, bill_of, thousandths_text, tally_text, bill_text};
 ghost use Rattle.winding.specs.Winding.{sums_of};
 
 use crate::tally::Tally;
@@ -30,18 +30,11 @@ impl fmt::Display for Thousandths {
 
 impl Wheel {
     // A reading times the circumference, in micrometres. It fits 64 bits at any reading.
+    #[tactic(auto, using(crate::proofs::Products::product_fits))]
     fn turned(&self, reading: i32) -> i64
         ensures { result ≡ reading *ℤ pos self.now.circumference }
     {
         i64::from(reading) * i64::from(self.circumference)
-    }
-
-    // The length that a reading stands for, rounded down to the millimetre.
-    pub fn length(&self, reading: i32) -> Thousandths
-        ensures { result.0 ≡ millimetres self.now reading }
-    {
-        let per_millimetre = 4000 * i64::from(self.lines);
-        Thousandths(self.turned(reading).div_euclid(per_millimetre))
     }
 
     // The pulses that an evaluation counts in one turn.
@@ -59,8 +52,8 @@ impl Wheel {
     }
 
     // The length that a reading stands for where this evaluation counted its pulses, rounded down to the millimetre.
-    pub fn length_by_evaluation(&self, reading: i32, evaluation: PickedEvaluation) -> Thousandths
-        ensures { result.0 ≡ millimetres_by_evaluation self.now evaluation reading }
+    pub fn length(&self, reading: i32, evaluation: PickedEvaluation) -> Thousandths
+        ensures { result.0 ≡ millimetres self.now evaluation reading }
     {
         let divisor = 1000 * self.pulses_per_turn(evaluation);
         Thousandths(self.turned(reading).div_euclid(divisor))
@@ -78,19 +71,17 @@ pub struct Bill {
 }
 
 impl<E: Evaluation, C: Counter> Winding<E, C> {
-    // Length and time are rounded down, to the millimetre and the millisecond.
-    pub fn bill(&self, wheel: &Wheel) -> Bill
-        ensures tally { result.tally ≡ self.now.tally }
-        ensures reading { result.reading ≡ (C.Counter.means self.now.counter).reading }
-        ensures length { result.length.0 ≡ millimetres wheel.now (C.Counter.means self.now.counter).reading }
-        ensures time { result.time.0 ≡ pos (self.now.tally.elapsed / 1000) }
+    // The length goes by this evaluation. Length and time are rounded down, to the millimetre and
+    // the millisecond.
+    pub fn bill(&self, wheel: &Wheel, evaluation: PickedEvaluation) -> Bill
+        ensures { result ≡ bill_of wheel.now evaluation self.now.tally (C.Counter.means self.now.counter).reading }
     {
         let tally = self.tally;
         let reading = self.counter.meaning().reading;
         Bill {
             tally,
             reading,
-            length: wheel.length(reading),
+            length: wheel.length(reading, evaluation),
             time: Thousandths((tally.elapsed / 1000) as i64),
         }
     }
@@ -109,14 +100,9 @@ impl<C: Counter> Winding<Staged<PickedEvaluation>, C> {
 
     // The bill of a winding whose evaluation settings picked: its length goes by that evaluation.
     pub fn bill_by_evaluation(&self, wheel: &Wheel) -> Bill
-        ensures tally { result.tally ≡ self.now.tally }
-        ensures reading { result.reading ≡ (C.Counter.means self.now.counter).reading }
-        ensures length { result.length.0 ≡ millimetres_by_evaluation wheel.now (evaluation_of self.now.evaluation) (C.Counter.means self.now.counter).reading }
-        ensures time { result.time.0 ≡ pos (self.now.tally.elapsed / 1000) }
+        ensures { result ≡ bill_of wheel.now (evaluation_of self.now.evaluation) self.now.tally (C.Counter.means self.now.counter).reading }
     {
-        let bill = self.bill(wheel);
-        let length = wheel.length_by_evaluation(bill.reading, self.picked());
-        Bill { length, ..bill }
+        self.bill(wheel, self.picked())
     }
 }
 
@@ -124,13 +110,10 @@ impl fmt::Display for Tally {
     ghost output = { λ t. Some (tally_text (sums_of t)) };
 
     fn fmt<W: fmt::Write>(&self, f: &mut fmt::Formatter<W>) -> fmt::Result {
-        let samples = self.samples;
-        let up = self.up;
-        let down = self.down;
-        let doubles = self.doubles;
         write!(
             f,
-            "samples        {samples}\npulses up      {up}\npulses down    {down}\nsignal errors  {doubles}"
+            "samples        {}\npulses up      {}\npulses down    {}\nsignal errors  {}",
+            self.samples, self.up, self.down, self.doubles
         )
     }
 }
@@ -139,13 +122,10 @@ impl fmt::Display for Bill {
     ghost output = { λ b. Some (bill_text (sums_of b.tally) b.reading b.length.0 b.time.0) };
 
     fn fmt<W: fmt::Write>(&self, f: &mut fmt::Formatter<W>) -> fmt::Result {
-        let tally = self.tally;
-        let reading = self.reading;
-        let length = self.length;
-        let time = self.time;
         write!(
             f,
-            "{tally}\nreading        {reading}\nlength         {length} m\nelapsed        {time} s"
+            "{}\nreading        {}\nlength         {} m\nelapsed        {} s",
+            self.tally, self.reading, self.length, self.time
         )
     }
 }

@@ -1,6 +1,6 @@
 // A capture of the encoder's lines as text: the wheel on the first line, then one sample a line. A record may stand before them.
 ghost use Rattle.std.specs.Prelude.{◌≡◌, ℕ, Some, MatchResult};
-ghost use Rattle.winding.specs.declared.capture.LineFault.TheVariants.{NotTwoNumbers, NoRoom};
+ghost use Rattle.winding.specs.declared.capture.LineFault.TheVariants.{NotTwoNumbers, LevelsOutOfRange, NoRoom};
 ghost use Rattle.winding.specs.Capture.{fault_words, bears_data, RecordLine, TwoNumbers, sample_of, Answered, Samples, Wheels, WindsLine};
 ghost use Rattle.winding.specs.Winding.{state_of};
 
@@ -8,8 +8,9 @@ use crate::tally::TallyFull;
 use crate::wheel::Wheel;
 use crate::winding::{Sample, Winding};
 use counter::Counter;
-use encoder::{Evaluation, Levels};
+use encoder::{Evaluation, Levels, NoLevelByte};
 use std::fmt;
+use std::num::{ParseIntError, TryFromIntError};
 
 // What is wrong with a line of a capture.
 #[derive(Clone, Copy, PartialEq, Eq, Debug)]
@@ -29,17 +30,27 @@ impl From<TallyFull> for LineFault {
     }
 }
 
-impl LineFault {
-    fn words(self) -> &'static str
-        ensures { result.now ≡ fault_words self }
-    {
-        match self {
-            LineFault::NotTwoNumbers => "not two decimal numbers with one blank between",
-            LineFault::ZeroInWheel => "the circumference and the lines per turn must be above 0",
-            LineFault::TimeTooLong => "the time is above 1,000,000 microseconds",
-            LineFault::LevelsOutOfRange => "the level byte is above 7",
-            LineFault::NoRoom => "the tally has no room for another sample",
-        }
+impl From<ParseIntError> for LineFault {
+    ghost from_gives = { λ _ r. r ≡ NotTwoNumbers };
+
+    fn from(_error: ParseIntError) -> LineFault {
+        LineFault::NotTwoNumbers
+    }
+}
+
+impl From<TryFromIntError> for LineFault {
+    ghost from_gives = { λ _ r. r ≡ LevelsOutOfRange };
+
+    fn from(_error: TryFromIntError) -> LineFault {
+        LineFault::LevelsOutOfRange
+    }
+}
+
+impl From<NoLevelByte> for LineFault {
+    ghost from_gives = { λ _ r. r ≡ LevelsOutOfRange };
+
+    fn from(_byte: NoLevelByte) -> LineFault {
+        LineFault::LevelsOutOfRange
     }
 }
 
@@ -47,8 +58,13 @@ impl fmt::Display for LineFault {
     ghost output = { λ fault. Some (fault_words fault) };
 
     fn fmt<W: fmt::Write>(&self, f: &mut fmt::Formatter<W>) -> fmt::Result {
-        let words = self.words();
-        write!(f, "{words}")
+        f.write_str(match self {
+            LineFault::NotTwoNumbers => "not two decimal numbers with one blank between",
+            LineFault::ZeroInWheel => "the circumference and the lines per turn must be above 0",
+            LineFault::TimeTooLong => "the time is above 1,000,000 microseconds",
+            LineFault::LevelsOutOfRange => "the level byte is above 7",
+            LineFault::NoRoom => "the tally has no room for another sample",
+        })
     }
 }
 
@@ -56,10 +72,7 @@ impl fmt::Display for LineFault {
 pub fn bears_data(line: &str) -> bool
     ensures { result ≡ bears_data line.now }
 {
-    match line.as_bytes() {
-        [] | [b'#', ..] => false,
-        _ => true,
-    }
+    !matches!(line.as_bytes(), [] | [b'#', ..])
 }
 
 // The digits on a line that holds a part of the parameter record.
@@ -72,16 +85,8 @@ pub fn record_digits(line: &str) -> Option<&[u8]>
 fn two_numbers(line: &str) -> Result<(u32, u32), LineFault>
     ensures { MatchResult result (λ p. TwoNumbers line.now p.0 p.1) (λ e. (e ≡ NotTwoNumbers) × ((a b : ℕ) → TwoNumbers line.now a b → ⊥)) }
 {
-    let Some((first, second)) = line.split_once(' ') else {
-        return Err(LineFault::NotTwoNumbers);
-    };
-    let Ok(a) = first.parse::<u32>() else {
-        return Err(LineFault::NotTwoNumbers);
-    };
-    let Ok(b) = second.parse::<u32>() else {
-        return Err(LineFault::NotTwoNumbers);
-    };
-    Ok((a, b))
+    let (first, second) = line.split_once(' ').ok_or(LineFault::NotTwoNumbers)?;
+    Ok((first.parse()?, second.parse()?))
 }
 
 // The wheel line: the circumference in micrometres and the lines per turn.
@@ -134,12 +139,7 @@ impl Sample {
         if time > 1_000_000 {
             return Err(LineFault::TimeTooLong);
         }
-        let Ok(byte) = u8::try_from(byte) else {
-            return Err(LineFault::LevelsOutOfRange);
-        };
-        let Some(levels) = Levels::from_byte(byte) else {
-            return Err(LineFault::LevelsOutOfRange);
-        };
+        let levels = Levels::try_from(u8::try_from(byte)?)?;
         Ok(Sample {
             elapsed: time,
             levels,

@@ -20,7 +20,10 @@ fn lengths_round_down(rt: HostRuntime) -> Result<(), Fail> {
         let Ok(wheel) = read_wheel(line) else {
             return Err(Fail::new("no wheel"));
         };
-        assert_eq!(rt; wheel.length(reading), Thousandths(millimetres));
+        assert_eq!(rt;
+            wheel.length(reading, PickedEvaluation::Quadruple),
+            Thousandths(millimetres)
+        );
     }
     Ok(())
 }
@@ -47,10 +50,7 @@ fn lengths_by_evaluation(rt: HostRuntime) -> Result<(), Fail> {
         let Ok(wheel) = read_wheel(line) else {
             return Err(Fail::new("no wheel"));
         };
-        assert_eq!(rt;
-            wheel.length_by_evaluation(reading, evaluation),
-            Thousandths(millimetres)
-        );
+        assert_eq!(rt; wheel.length(reading, evaluation), Thousandths(millimetres));
     }
     Ok(())
 }
@@ -72,7 +72,7 @@ fn thousandths_as_text(rt: HostRuntime) -> Result<(), Fail> {
 
 #[test]
 fn bad_lines_are_not_wound(rt: HostRuntime) {
-    let mut winding = Winding::new(Quadruple, FullRange::endless(0));
+    let mut winding = Winding::new(Quadruple, FullRange::new(0, false));
     let lines = [
         ("5 1", Ok(())),
         ("5 3", Ok(())),

@@ -5,7 +5,7 @@ ghost use Rattle.winding.specs.Winding.{sums_of, no_sums, noted, has_room, state
 
 use crate::tally::{Tally, TallyFull};
 use counter::Counter;
-use encoder::{Answer, Evaluation, Levels, Pair};
+use encoder::{Evaluation, Levels, Pair, Pulse};
 
 // The levels, and the microseconds since the sample before.
 #[derive(Clone, Copy)]
@@ -27,23 +27,18 @@ impl Tally {
         }
     }
 
-    // Notes one sample: its answer, whether both lines changed, and its time.
-    fn note(&mut self, answer: Answer, both: bool, time: u32) -> Result<(), TallyFull>
+    // Notes one sample: its pulse, whether both lines changed, and its time.
+    fn note(&mut self, pulse: Option<Pulse>, both: bool, time: u32) -> Result<(), TallyFull>
         ensures accepted { is_ok result ≡ has_room (sums_of self.old) time }
-        ensures sums { sums_of self.new ≡ (if is_ok result then noted answer both time (sums_of self.old) else sums_of self.old) }
+        ensures sums { sums_of self.new ≡ (if is_ok result then noted pulse both time (sums_of self.old) else sums_of self.old) }
     {
-        let Some(elapsed) = self.elapsed.checked_add(u64::from(time)) else {
-            return Err(TallyFull);
-        };
-        if self.samples == u64::MAX {
-            return Err(TallyFull);
-        }
-        self.samples += 1;
+        let elapsed = self.elapsed.checked_add(u64::from(time)).ok_or(TallyFull)?;
+        self.samples = self.samples.checked_add(1).ok_or(TallyFull)?;
         self.elapsed = elapsed;
-        match answer {
-            Answer::Up => self.up += 1,
-            Answer::Down => self.down += 1,
-            Answer::Nothing => {}
+        match pulse {
+            Some(Pulse::Up) => self.up += 1,
+            Some(Pulse::Down) => self.down += 1,
+            None => {}
         }
         if both {
             self.doubles += 1;
@@ -85,18 +80,14 @@ impl<E: Evaluation, C: Counter> Winding<E, C> {
         ensures state { state_of C.Counter.means self.new ≡ (if is_ok result then wound (E.Evaluation.answers self.old.evaluation) sample (state_of C.Counter.means self.old) else state_of C.Counter.means self.old) }
     {
         let new = sample.levels.pair;
-        let answer = self.evaluation.evaluate(self.pair, new);
+        let pulse = self.evaluation.evaluate(self.pair, new);
         let both = self.pair.both_differ(new);
-        self.tally.note(answer, both, sample.elapsed)?;
-        match answer {
-            Answer::Up => {
-                let _ = self.counter.up();
-            }
-            Answer::Down => {
-                let _ = self.counter.down();
-            }
-            Answer::Nothing => {}
-        }
+        self.tally.note(pulse, both, sample.elapsed)?;
+        let _ = match pulse {
+            Some(Pulse::Up) => self.counter.up(),
+            Some(Pulse::Down) => self.counter.down(),
+            None => None,
+        };
         self.pair = new;
         Ok(())
     }

@@ -1,37 +1,33 @@
-use Rattle.std.proofs.Common.{Some, None, refl, lit<}
-use Rattle.std.proofs.lemmas.Result.{Ok-from_Ok_iff}
-use Rattle.std.proofs.lemmas.Str.Pattern.{split_parts}
+use Rattle.std.proofs.Common.{◌≡◌, None, Err, refl, subst, lit<, rules}
+use Rattle.std.proofs.lemmas.Result.{OkIff-at_err}
+use Rattle.std.proofs.lemmas.Str.Pattern.{IsSplitOnceResult, split_parts}
+use Rattle.winding.specs.declared.capture.LineFault.TheVariants.{NotTwoNumbers}
 use Rattle.winding.proofs.Numbers.{needs_blank, at_first_blank}
 use Rattle.winding.proofs.capture.two_numbers.Goals as goal
 
-pub returns : goal.returns
-returns c =
-    let parts = split_parts 32 c.args.line.now (Some (c.in-Some.first, c.in-Some.second)) c.in-Some.ensures.cases (lit< tt) in
-    let a = c.in-Ok.ensures.value.0 in
-    let b = c.in-Ok-parse.ensures.value.0 in
-    record {
-      first = c.in-Some.first.now;
-      second = c.in-Some.second.now;
-      parts = parts.0;
-      first_is = record { digits = a.0.0; small = a.0.1; is = a.1 };
-      second_is = record { digits = b.0.0; small = b.0.1; is = b.1 };
-    }
+pub returns-in_err-first : goal.returns-in_err-first
+returns-in_err-first c =
+    let refused : c.from_residual.result ≡ Err NotTwoNumbers = search rules in
+    let none : c.split_once.result ≡ None = search rules in
+    let parts = split_parts 32 c.args.line.now None (subst (IsSplitOnceResult 32 c.args.line.now) none c.split_once.ensures.cases) (lit< tt) in
+    rw refused (refl, λ a b. needs_blank c.args.line.now a b parts)
 
-pub returns-in_default : goal.returns-in_default
-returns-in_default c = (refl, λ a b two. needs_blank c.args.line.now a b (split_parts 32 c.args.line.now None c.in_default.ensures.cases (lit< tt)) two)
+pub returns-in_err-parse : goal.returns-in_err-parse
+returns-in_err-parse c =
+    let refused : c.from_residual-in_err-parse.result ≡ Err NotTwoNumbers = search rules in
+    rw refused (
+      refl,
+      λ a b two.
+          let parts = at_first_blank c.args.line.now a b c.in_ok-first.first c.in_ok-first.second (search rules) two in
+          OkIff-at_err c.parse.result _ _ _ c.parse.ensures.value.0 c.in_err-parse.was (rw parts.0 (two.first_is.digits, two.first_is.small)),
+    )
 
-pub returns-in_default-parse : goal.returns-in_default-parse
-returns-in_default-parse c = (
-  refl,
-  λ a b two.
-      let parts = at_first_blank c.args.line.now a b c.in-Some.first c.in-Some.second c.in-Some.ensures.cases two in
-      c.in_default-parse.not-Ok _ (Ok-from_Ok_iff c.parse.result _ _ c.parse.ensures.value.0 (rw parts.0 (two.first_is.digits, two.first_is.small))),
-)
-
-pub returns-in_default-parse-2 : goal.returns-in_default-parse-2
-returns-in_default-parse-2 c = (
-  refl,
-  λ a b two.
-      let parts = at_first_blank c.args.line.now a b c.in-Some.first c.in-Some.second c.in-Some.ensures.cases two in
-      c.in_default-parse-2.not-Ok _ (Ok-from_Ok_iff c.parse-2.result _ _ c.parse-2.ensures.value.0 (rw parts.1 (two.second_is.digits, two.second_is.small))),
-)
+pub returns-in_err-parse-2 : goal.returns-in_err-parse-2
+returns-in_err-parse-2 c =
+    let refused : c.from_residual-in_err-parse-2.result ≡ Err NotTwoNumbers = search rules in
+    rw refused (
+      refl,
+      λ a b two.
+          let parts = at_first_blank c.args.line.now a b c.in_ok-first.first c.in_ok-first.second (search rules) two in
+          OkIff-at_err c.parse-2.result _ _ _ c.parse-2.ensures.value.0 c.in_err-parse-2.was (rw parts.1 (two.second_is.digits, two.second_is.small)),
+    )
