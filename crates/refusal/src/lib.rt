@@ -4,6 +4,7 @@
 ghost use Rattle.std.specs.Prelude.{◌≡◌, ℕ, Some};
 ghost use Rattle.refusal.specs.Refusals.{number_of, layer_of, layer_name, words_of, refusal, refused_line, explained_line};
 
+use std::error::Error;
 use std::fmt;
 
 #[derive(Clone, Copy, PartialEq, Eq, Debug)]
@@ -14,16 +15,16 @@ pub enum Layer {
     Image,
 }
 
-impl Layer {
-    pub fn name(self) -> &'static str
-        ensures { result.now ≡ layer_name self }
-    {
-        match self {
+impl fmt::Display for Layer {
+    ghost output = { λ x. Some (layer_name x) };
+
+    fn fmt<W: fmt::Write>(&self, f: &mut fmt::Formatter<W>) -> fmt::Result {
+        f.write_str(match self {
             Layer::Record => "record",
             Layer::Word => "word",
             Layer::Run => "run",
             Layer::Image => "image",
-        }
+        })
     }
 }
 
@@ -75,12 +76,14 @@ impl Reason {
             Reason::ImageTooShort => Layer::Image,
         }
     }
+}
 
-    // The reason for a person to read.
-    fn words(self) -> &'static str
-        ensures { result.now ≡ words_of self }
-    {
-        match self {
+// The reason for a person to read.
+impl fmt::Display for Reason {
+    ghost output = { λ r. Some (words_of r) };
+
+    fn fmt<W: fmt::Write>(&self, f: &mut fmt::Formatter<W>) -> fmt::Result {
+        f.write_str(match self {
             Reason::FieldMissing => "fewer than three bytes are left where a field must begin",
             Reason::UnexpectedTag => "the tag is not the next one",
             Reason::WrongLength => "the length is not that of the tag",
@@ -97,7 +100,7 @@ impl Reason {
             Reason::TimeTooLong => "the sample's time is above 1,000,000 microseconds",
             Reason::LevelsOutOfRange => "the sample's level byte is above 7",
             Reason::ImageTooShort => "fewer than ten bytes of the image are left from the place on",
-        }
+        })
     }
 }
 
@@ -147,11 +150,13 @@ impl fmt::Display for Refusal {
 
     fn fmt<W: fmt::Write>(&self, f: &mut fmt::Formatter<W>) -> fmt::Result {
         let number = self.number();
-        let layer = self.layer().name();
+        let layer = self.layer();
         let place = self.place;
         write!(f, "refused {number} {layer} {place}")
     }
 }
+
+impl Error for Refusal {}
 
 // The same line with the reason in words behind it, for a person to read.
 #[derive(Clone, Copy)]
@@ -164,8 +169,8 @@ impl fmt::Display for InWords {
 
     fn fmt<W: fmt::Write>(&self, f: &mut fmt::Formatter<W>) -> fmt::Result {
         let refusal = self.refusal;
-        let words = refusal.reason.words();
-        write!(f, "{refusal}: {words}")
+        let reason = refusal.reason;
+        write!(f, "{refusal}: {reason}")
     }
 }
 
