@@ -8,10 +8,6 @@ abbrev pub before : List ℕ → Option (List ℕ) → Option (List ℕ)
 before front None = None
 before front (Some bytes) = Some (front ++ bytes)
 
-pub before_none : (bytes : Option (List ℕ)) → before [] bytes ≡ bytes
-before_none None = refl
-before_none (Some bytes) = refl
-
 before_joined : (front : List ℕ) (b : ℕ) (bytes : Option (List ℕ)) → before (front ++ (b ∷ [])) bytes ≡ before front (joined (Some b) bytes)
 before_joined front b None = refl
 before_joined front b (Some bytes) = ap Some (append_assoc front (b ∷ []) bytes)
@@ -21,6 +17,4 @@ pub step : (front rest : List ℕ) (b : ℕ) → 2 ≤ length rest → byte_valu
 step front [] b long is = absurd (omega arith)
 step front (high ∷ []) b long is = absurd (omega arith)
 step front (high ∷ low ∷ rest) b long is =
-    ap (λ r. before (front ++ (b ∷ [])) (decoded r)) (take_rest (high ∷ low ∷ rest) 2)
-    ∙ (before_joined front b (decoded rest)
-    ∙ ap (λ o. before front (joined o (decoded rest))) (sym is))
+    rw (take_rest (high ∷ low ∷ rest) 2) (before_joined front b (decoded rest) ∙ ap (λ o. before front (joined o (decoded rest))) (sym is))

@@ -1,7 +1,12 @@
 -- Bytes as hexadecimal digits.
-use Rattle.std.specs.Prelude.{◌≡◌, ℕ, ◌+◌, ◌-◌, ◌*◌, ◌≤◌, cond, ◌&&◌, List, [], ◌∷◌, length, Some, None, Ok, Err, Option, Result, nat_le}
+use Rattle.std.specs.Prelude.{◌≡◌, ℕ, ◌+◌, ◌-◌, ◌*◌, ◌≤◌, cond, ◌&&◌, List, [], ◌∷◌, length, codes, Some, None, Ok, Err, Option, Result, nat_le}
 use Rattle.hex_digits.specs.declared.HexFault.{HexFault}
 use Rattle.hex_digits.specs.declared.HexFault.TheVariants.{NotHex, NoMemory}
+
+-- a fault in plain words
+abbrev pub fault_words : HexFault → List ℕ
+fault_words NotHex = codes "not pairs of hexadecimal digits"
+fault_words NoMemory = codes "the memory does not hold the bytes"
 
 -- the value of a digit by its character: `0` to `9`, `a` to `f`, `A` to `F`
 abbrev pub digit_value : ℕ → Option ℕ

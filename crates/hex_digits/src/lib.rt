@@ -1,15 +1,39 @@
 // Bytes written as text: two hexadecimal digits for each, the higher first.
 #![tactic(auto)]
 
-ghost use Rattle.std.specs.Prelude.{◌≡◌, vec_items};
-ghost use Rattle.hex_digits.specs.Hex.{digit_value, byte_value, Reads};
+ghost use Rattle.std.specs.Prelude.{◌≡◌, Some, vec_items};
+ghost use Rattle.hex_digits.specs.Hex.{digit_value, byte_value, fault_words, Reads};
+ghost use Rattle.hex_digits.specs.declared.HexFault.TheVariants.{NoMemory};
 
-use std::alloc::Global;
+use std::alloc::{AllocFailed, Global};
+use std::error::Error;
+use std::fmt;
 
 #[derive(Clone, Copy, PartialEq, Eq, Debug)]
 pub enum HexFault {
     NotHex,
     NoMemory,
+}
+
+impl fmt::Display for HexFault {
+    ghost output = { λ fault. Some (fault_words fault) };
+
+    fn fmt<W: fmt::Write>(&self, f: &mut fmt::Formatter<W>) -> fmt::Result {
+        f.write_str(match self {
+            HexFault::NotHex => "not pairs of hexadecimal digits",
+            HexFault::NoMemory => "the memory does not hold the bytes",
+        })
+    }
+}
+
+impl Error for HexFault {}
+
+impl<T: Drop> From<AllocFailed<T>> for HexFault {
+    ghost from_gives = { λ _ fault. fault ≡ NoMemory };
+
+    fn from(_failed: AllocFailed<T>) -> Self {
+        Self::NoMemory
+    }
 }
 
 fn digit(c: u8) -> Option<u8>
@@ -30,18 +54,14 @@ fn byte(high: u8, low: u8) -> Option<u8>
 }
 
 // The bytes that digits stand for, if these are digits and come in pairs.
+#[tactic(auto, using(crate::proofs::Digits::step))]
 pub fn from_hex(heap: Global, digits: &[u8]) -> Result<Vec<u8>, HexFault>
     ensures { Reads vec_items digits.now result }
 {
     let mut bytes = Vec::new(heap);
     let mut rest = digits;
     while let [high, low, after @ ..] = rest {
-        let Some(byte) = byte(*high, *low) else {
-            return Err(HexFault::NotHex);
-        };
-        if bytes.push(byte).is_err() {
-            return Err(HexFault::NoMemory);
-        }
+        bytes.push(byte(*high, *low).ok_or(HexFault::NotHex)?)?;
         rest = after;
     }
     match rest {
