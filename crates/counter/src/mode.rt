@@ -1,12 +1,12 @@
-// The choices that pick a counter.
+// The choices that pick a counter. The numbers are the codes by which settings name them.
 ghost use Rattle.std.specs.Prelude.{◌≡◌};
 ghost use Rattle.counter.specs.Rows.{stops};
 
 #[derive(Clone, Copy)]
 pub enum Mode {
-    Endless,
-    Once,
-    Periodic,
+    Endless = 0,
+    Once = 1,
+    Periodic = 2,
 }
 
 impl Mode {
@@ -18,10 +18,11 @@ impl Mode {
     }
 }
 
-// The main count direction: none, up or down.
+// The main count direction: none, up or down. No Option: that there is none is a choice with a code
+// of its own, as the other two have.
 #[derive(Clone, Copy)]
 pub enum MainDirection {
-    Neither,
-    Up,
-    Down,
+    Neither = 0,
+    Up = 1,
+    Down = 2,
 }

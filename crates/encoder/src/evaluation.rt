@@ -12,7 +12,8 @@ pub enum Pulse {
     Down,
 }
 
-// Answers a pulse or none from an old and a new pair, and from nothing else.
+// Answers a pulse or none from an old and a new pair, and from nothing else. The two pairs stay two
+// parameters: each evaluation takes both apart, so a struct of them would be no plainer.
 pub trait Evaluation {
     // what it answers to an old and a new pair
     ghost answers: { Self → Answers };
@@ -27,7 +28,8 @@ pub trait Evaluation {
 pub trait Rotary: Evaluation {
     ghost height: { Self → ℤ → ℤ };
 
-    // Does nothing; its promise is the law between neighbouring places.
+    // Does nothing; its promise is the law between neighbouring places, which generic code gets by a
+    // call. A rule of the project wants it a function.
     fn step_law(&self)
         ensures { StepLaw (Self.Evaluation.answers self.now) (height self.now) };
 }

@@ -27,6 +27,7 @@ impl<E: Evaluation> Evaluation for Inverted<E> {
 impl<E: Rotary> Rotary for Inverted<E> {
     ghost height = { λ s. inverted_height (E.Rotary.height s.inner) };
 
+    #[tactic(auto, using(crate::proofs::Mirror::mirrored))]
     fn step_law(&self) {
         self.inner.step_law()
     }

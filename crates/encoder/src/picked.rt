@@ -9,12 +9,13 @@ use crate::pulse_direction::PulseDirection;
 use crate::quadruple::Quadruple;
 use crate::single::Single;
 
+// The numbers are the codes by which settings name them.
 #[derive(Clone, Copy, PartialEq, Eq, Debug)]
 pub enum PickedEvaluation {
-    PulseDirection,
-    Single,
-    Double,
-    Quadruple,
+    PulseDirection = 0,
+    Single = 1,
+    Double = 2,
+    Quadruple = 4,
 }
 
 impl Evaluation for PickedEvaluation {

@@ -30,7 +30,7 @@ impl fmt::Display for Thousandths {
 
 impl Wheel {
     // A reading times the circumference, in micrometres. It fits 64 bits at any reading.
-    #[tactic(auto, using(crate::proofs::Products::product_fits))]
+    #[tactic(auto, using(crate::proofs::Products::products))]
     fn turned(&self, reading: i32) -> i64
         ensures { result ≡ reading *ℤ pos self.now.circumference }
     {
