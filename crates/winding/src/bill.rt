@@ -17,14 +17,13 @@ pub struct Thousandths(pub i64);
 impl fmt::Display for Thousandths {
     ghost output = { λ x. Some (thousandths_text x.0) };
 
+    #[tactic(auto, using(crate::proofs::Digits::three_digits))]
     fn fmt<W: fmt::Write>(&self, f: &mut fmt::Formatter<W>) -> fmt::Result {
         let sign = if self.0 < 0 { "-" } else { "" };
         let size = self.0.unsigned_abs();
         let whole = size / 1000;
-        let tenths = size / 100 % 10;
-        let hundredths = size / 10 % 10;
-        let thousandths = size % 10;
-        write!(f, "{sign}{whole}.{tenths}{hundredths}{thousandths}")
+        let part = size % 1000;
+        write!(f, "{sign}{whole}.{part:03}")
     }
 }
 
