@@ -9,6 +9,7 @@ use crate::wheel::Wheel;
 use crate::winding::{Sample, Winding};
 use counter::Counter;
 use encoder::{Evaluation, Levels, NoLevelByte};
+use std::error::Error;
 use std::fmt;
 use std::num::{ParseIntError, TryFromIntError};
 
@@ -67,6 +68,8 @@ impl fmt::Display for LineFault {
         })
     }
 }
+
+impl Error for LineFault {}
 
 // Empty lines and comments bear no data.
 pub fn bears_data(line: &str) -> bool
