@@ -1,4 +1,3 @@
 pub mod Values
 pub mod Reading
 pub mod RoundTrips
-pub mod Writing

@@ -1,7 +1,8 @@
 -- Both round trips.
-use Rattle.std.proofs.Common.{◌≡◌, ℕ, Bool, true, false, cond, not, ◌&&◌, List, [], ◌∷◌, ℤ, pos, negsuc, ◌≤ℤ◌, is_some, Some, None, Ok, Err, Option, Result, refl, ap, ◌∙◌, arith, w32, SFits}
-use Rattle.std.proofs.lemmas.Int.{ints}
+use Rattle.std.proofs.Common.{◌≡◌, ℕ, Bool, true, false, cond, not, ◌&&◌, List, [], ◌∷◌, ℤ, pos, negsuc, ◌≤ℤ◌, is_some, Some, None, Ok, Err, Option, Result, refl, ap, ◌∙◌, arith, get_or, w8, Fits, w32, SFits, to_z, of_z}
+use Rattle.std.proofs.lemmas.Int.{ints, to_z-of_z}
 use Rattle.std.specs.List.{AllByRecursion as All}
+use Rattle.std.proofs.ByRecursion.{All-from_get_or}
 use Rattle.refusal.specs.declared.Refusal.{Refusal}
 use Rattle.refusal.specs.declared.Reason.{Reason}
 use Rattle.refusal.specs.declared.Reason.TheVariants.{ValueOutOfRange, FieldsConflict}
@@ -111,12 +112,8 @@ owned =
       end_of.1,
     )))))))))))))
 
-pub own_record : (bytes : List ℕ) (c : Choices) → All Byte bytes → choices_read bytes ≡ Ok c → bytes ≡ record_of c
-own_record bytes c all e = (owned bytes c all e).1
-
--- the verdict on a record whose fields were read is that on the choices that were read
-pub verdict_read : (bytes : List ℕ) (c : Choices) → All Byte bytes → Numbers c → choices_read bytes ≡ Ok c → verdict bytes ≡ checked c
-verdict_read bytes c all fits e = ap verdict (own_record bytes c all e) ∙ verdict_record c fits
+pub own_record : (bytes : List ℕ) (c : Choices) → ((i : ℕ) → Fits w8 (get_or bytes i 0)) → choices_read bytes ≡ Ok c → bytes ≡ record_of c
+own_record bytes c fit e = (owned bytes c (All-from_get_or Byte bytes 0 (λ i l. omega (arith, fit i))) e).1
 
 -- choices that keep to everything are accepted
 unless_none : (reason : Reason) (o : Option Field) (c : Choices) → not (is_some o) ≡ true → unless reason o c ≡ Ok c
@@ -189,14 +186,21 @@ kept_row c kept =
     let agree = none_wrong (conflicts c) both.1 in
     all_three (has_row c.mode c.direction) (end_fits c.end) (within c c.load) agree.0 right.0 agree.1.0
 
+pub has_counter : (c : Choices) → keeps c ≡ true → row_fits c.mode c.direction (to_z w32 (of_z w32 c.end)) (to_z w32 (of_z w32 c.load)) ≡ true
+has_counter c kept =
+    let fits = kept_numbers c kept in
+    let end : SFits w32 c.end = fits.end in
+    let load : SFits w32 c.load = fits.load in
+    simp to_z-of_z (kept_row c kept)
+
 -- so the record of such choices is accepted as theirs
 pub record_back : (c : Choices) → keeps c ≡ true → verdict (record_of c) ≡ Ok c
 record_back c kept = verdict_record c (kept_numbers c kept) ∙ kept_checked c kept
 
 -- what is judged so is accepted exactly where it is the record of some parameters
-pub accepts_own : {P : Type 0} (choices : P → Choices) → ((p : P) → keeps (choices p) ≡ true) → (bytes : List ℕ) (r : Result P Refusal) → All Byte bytes → Gives choices r (verdict bytes) → AcceptsOwn choices bytes r
-accepts_own choices kept bytes (Ok p) all gives = own_record bytes (choices p) all (verdict_same (choices_read bytes) (choices p) gives)
-accepts_own choices kept bytes (Err refused) all gives = λ p is.
+pub accepts_own : {P : Type 0} (choices : P → Choices) → ((p : P) → keeps (choices p) ≡ true) → (bytes : List ℕ) (r : Result P Refusal) → ((i : ℕ) → Fits w8 (get_or bytes i 0)) → Gives choices r (verdict bytes) → AcceptsOwn choices bytes r
+accepts_own choices kept bytes (Ok p) fit gives = own_record bytes (choices p) fit (verdict_same (choices_read bytes) (choices p) gives)
+accepts_own choices kept bytes (Err refused) fit gives = λ p is.
     let ok : verdict bytes ≡ Ok (choices p) = ap verdict is ∙ record_back (choices p) (kept p) in
     let z : ◌≡◌ {A = ℕ} 0 1 = cc in
     omega arith

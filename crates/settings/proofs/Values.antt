@@ -27,45 +27,36 @@ Byte b = b < 256
 
 -- a code reads back as its choice
 pub mode_back : (v : Mode) → mode_read (mode_code v ∷ []) ≡ Some v
-mode_back mode.Endless = refl
-mode_back mode.Once = refl
-mode_back mode.Periodic = refl
+unfolding coded
+mode_back = elim [ mode.Endless ↦ refl | mode.Once ↦ refl | mode.Periodic ↦ refl ]
 
 pub direction_back : (v : MainDirection) → direction_read (direction_code v ∷ []) ≡ Some v
-direction_back direction.Neither = refl
-direction_back direction.Up = refl
-direction_back direction.Down = refl
+unfolding coded
+direction_back = elim [ direction.Neither ↦ refl | direction.Up ↦ refl | direction.Down ↦ refl ]
 
 pub evaluation_back : (v : PickedEvaluation) → evaluation_read (evaluation_code v ∷ []) ≡ Some v
-evaluation_back evaluation.PulseDirection = refl
-evaluation_back evaluation.Single = refl
-evaluation_back evaluation.Double = refl
-evaluation_back evaluation.Quadruple = refl
+unfolding coded
+evaluation_back = elim [ evaluation.PulseDirection ↦ refl | evaluation.Single ↦ refl | evaluation.Double ↦ refl | evaluation.Quadruple ↦ refl ]
 
 pub flag_back : (v : Bool) → flag_read (flag_code v ∷ []) ≡ Some v
-flag_back false = refl
-flag_back true = refl
+unfolding coded
+flag_back = elim [ false ↦ refl | true ↦ refl ]
 
 pub di_back : (v : DiFunction) → di_read (di_code v ∷ []) ≡ Some v
-di_back di.Input = refl
-di_back di.HardwareGate = refl
-di_back di.LatchAndRetrigger = refl
-di_back di.Synchronisation = refl
-di_back di.Latch = refl
+unfolding coded
+di_back = elim [ di.Input ↦ refl | di.HardwareGate ↦ refl | di.LatchAndRetrigger ↦ refl | di.Synchronisation ↦ refl | di.Latch ↦ refl ]
 
 pub gate_back : (v : GateFunction) → gate_read (gate_code v ∷ []) ≡ Some v
-gate_back gate.Cancel = refl
-gate_back gate.Interrupt = refl
+unfolding coded
+gate_back = elim [ gate.Cancel ↦ refl | gate.Interrupt ↦ refl ]
 
 pub synchronisation_back : (v : Synchronisation) → synchronisation_read (synchronisation_code v ∷ []) ≡ Some v
-synchronisation_back sync.Once = refl
-synchronisation_back sync.Periodic = refl
+unfolding coded
+synchronisation_back = elim [ sync.Once ↦ refl | sync.Periodic ↦ refl ]
 
 pub behaviour_back : (v : Behaviour) → behaviour_read (behaviour_code v ∷ []) ≡ Some v
-behaviour_back behaviour.FollowsBit = refl
-behaviour_back behaviour.OnAtOrAbove = refl
-behaviour_back behaviour.OnAtOrBelow = refl
-behaviour_back behaviour.Pulse = refl
+unfolding coded
+behaviour_back = elim [ behaviour.FollowsBit ↦ refl | behaviour.OnAtOrAbove ↦ refl | behaviour.OnAtOrBelow ↦ refl | behaviour.Pulse ↦ refl ]
 
 pub ruleset backs = (mode_back, direction_back, evaluation_back, flag_back, di_back, gate_back, synchronisation_back, behaviour_back)
 
@@ -79,6 +70,7 @@ decoded_code code [] c v e = cc
 decoded_code code (w ∷ vs) c v e = decoded_by code w (decoded code vs c) c v (eqb c (code w)) refl (decoded_code code vs c v) e
 
 coded_code : {V : Type 0} (code : V → ℕ) (vs : List V) (bytes : List ℕ) (v : V) → coded code vs bytes ≡ Some v → bytes ≡ code v ∷ []
+unfolding coded
 coded_code code vs [] v e = cc
 coded_code code vs (c ∷ []) v e = ap (λ n. n ∷ []) (decoded_code code vs c v e)
 coded_code code vs (c ∷ d ∷ more) v e = cc

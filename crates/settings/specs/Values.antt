@@ -2,6 +2,7 @@
 use Rattle.std.specs.Prelude.{ℕ, ◌+◌, ◌*◌, ◌/◌, ◌%◌, Bool, true, false, cond, ◌&&◌, List, [], ◌∷◌, ℤ, Some, None, Option, ◌==◌, nat_le}
 use Rattle.std.proofs.Common.{to_z, of_z}
 use Rattle.std.specs.Int.{w32}
+use Rattle.std.specs.List.{find}
 use Rattle.counter.specs.declared.mode.Mode.{Mode}
 use Rattle.counter.specs.declared.mode.Mode.TheVariants as mode
 use Rattle.counter.specs.declared.mode.MainDirection.{MainDirection}
@@ -88,11 +89,10 @@ behaviours = behaviour.FollowsBit ∷ behaviour.OnAtOrAbove ∷ behaviour.OnAtOr
 
 -- the first of some values that has this code
 abbrev pub decoded : {V : Type 0} → (V → ℕ) → List V → ℕ → Option V
-decoded code [] c = None
-decoded code (v ∷ vs) c = cond (c == code v) (Some v) (decoded code vs c)
+decoded code vs c = find (λ v. c == code v) vs
 
 -- a value of one byte: its code
-abbrev pub coded : {V : Type 0} → (V → ℕ) → List V → List ℕ → Option V
+unfoldable pub coded : {V : Type 0} → (V → ℕ) → List V → List ℕ → Option V
 coded code vs [] = None
 coded code vs (c ∷ []) = decoded code vs c
 coded code vs (c ∷ d ∷ more) = None

@@ -18,7 +18,7 @@ impl Output {
     pub(crate) fn duration_fits(&self) -> bool
         ensures { result ≡ duration_fits self.now.duration }
     {
-        SHORTEST_DURATION <= self.duration && self.duration <= LONGEST_DURATION
+        (SHORTEST_DURATION..=LONGEST_DURATION).contains(&self.duration)
     }
 }
 
@@ -46,7 +46,7 @@ impl Choices {
         match (self.mode, self.direction) {
             (Mode::Endless, _) | (_, MainDirection::Neither) => true,
             (_, MainDirection::Up) => value < self.end,
-            (_, MainDirection::Down) => 1 <= value && value <= self.end,
+            (_, MainDirection::Down) => (1..=self.end).contains(&value),
         }
     }
 
@@ -54,20 +54,17 @@ impl Choices {
     fn direction_agrees(&self) -> bool
         ensures { result ≡ direction_agrees self.now }
     {
-        match (self.mode, self.direction) {
-            (Mode::Endless, MainDirection::Up | MainDirection::Down) => false,
-            _ => true,
-        }
+        !matches!(
+            (self.mode, self.direction),
+            (Mode::Endless, MainDirection::Up | MainDirection::Down)
+        )
     }
 
     // Only the input of the hardware gate can be inverted.
     fn gate_input_agrees(&self) -> bool
         ensures { result ≡ gate_input_agrees self.now }
     {
-        match (self.gate_input_inverted, self.di_function) {
-            (false, _) | (true, DiFunction::HardwareGate) => true,
-            _ => false,
-        }
+        !self.gate_input_inverted || matches!(self.di_function, DiFunction::HardwareGate)
     }
 
     // The first field that conflicts with another.

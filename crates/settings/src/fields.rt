@@ -46,10 +46,7 @@ impl<'a> Fields<'a> {
         ensures { Takes (λ v. v) (taken field V.Value.reads self.old.rest.now) self.new.rest.now result }
     {
         let value = self.cut(field)?;
-        match V::from_bytes(value) {
-            Some(value) => Ok(value),
-            None => Err(Refusal::new(Reason::ValueOutOfRange, field.place())),
-        }
+        V::from_bytes(value).ok_or(Refusal::new(Reason::ValueOutOfRange, field.place()))
     }
 
     // The choices that were read, if nothing follows the last field.

@@ -3,6 +3,7 @@
 
 mod checks;
 mod choices;
+mod coded;
 mod field;
 mod fields;
 mod parameters;

@@ -15,17 +15,11 @@ pub struct Parameters {
 
 impl Parameters {
     // Parameters of these choices. They are refused as the record of these choices would be, with
-    // the place in that record.
+    // the place in that record: first the ranges are judged, then the agreement.
+    #[tactic(auto, using(crate::proofs::RoundTrips::verdict_record))]
     pub fn new(choices: Choices) -> Result<Parameters, Refusal>
         ensures verdict { Gives (λ p. p.choices) result (verdict (record_of choices)) }
-        ensures made { Holds (λ p. p.choices) result choices }
-    {
-        Parameters::check(choices)
-    }
-
-    // The same, judged without a record: first the ranges, then the agreement.
-    pub(crate) fn check(choices: Choices) -> Result<Parameters, Refusal>
-        ensures verdict { Gives (λ p. p.choices) result (checked choices) }
+        ensures judged { Gives (λ p. p.choices) result (checked choices) }
         ensures made { Holds (λ p. p.choices) result choices }
     {
         if let Some(field) = choices.out_of_range() {

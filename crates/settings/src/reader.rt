@@ -50,6 +50,6 @@ impl Parameters {
         ensures own { AcceptsOwn {P = Parameters} (λ p. p.choices) «record».now result }
     {
         let choices = read_choices(record)?;
-        Parameters::check(choices)
+        Parameters::new(choices)
     }
 }

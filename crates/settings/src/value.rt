@@ -1,11 +1,10 @@
 // The values of fields, as bytes.
 ghost use Rattle.std.specs.Prelude.{◌≡◌, ℕ, List, [], ◌∷◌, length, Option};
-ghost use Rattle.settings.specs.Values.{mode_code, mode_read, direction_code, direction_read, evaluation_code, evaluation_read, flag_code, flag_read, di_code, di_read, gate_code, gate_read, synchronisation_code, synchronisation_read, behaviour_code, behaviour_read, number_read, number_written, end_read, output_read, output_written};
+ghost use Rattle.settings.specs.Values.{coded, number_read, number_written, end_read, output_read, output_written};
 
 use crate::checks::LEAST_END;
-use crate::choices::{Behaviour, DiFunction, GateFunction, Output, Synchronisation};
-use counter::{MainDirection, Mode};
-use encoder::PickedEvaluation;
+use crate::choices::{Behaviour, Output};
+use crate::coded::Coded;
 
 // A value that stands in a field of the record.
 pub trait Value: Sized {
@@ -18,167 +17,26 @@ pub trait Value: Sized {
         ensures { result ≡ reads bytes.now };
 
     // Fills a part that is as long as the value.
-    fn write(&self, part: &mut [u8])
-        requires { length part.old ≡ length (writes self.now) }
-        ensures { part.new ≡ writes self.now };
+    fn write(self, part: &mut [u8])
+        requires { length part.old ≡ length (writes self) }
+        ensures { part.new ≡ writes self };
 }
 
-impl Value for Mode {
-    ghost reads = { mode_read };
+impl<C: Coded> Value for C {
+    ghost reads = { coded C.codes C.values };
 
-    ghost writes = { λ v. mode_code v ∷ [] };
+    ghost writes = { λ v. C.codes v ∷ [] };
 
-    fn from_bytes(bytes: &[u8]) -> Option<Mode> {
-        match bytes {
-            [0] => Some(Mode::Endless),
-            [1] => Some(Mode::Once),
-            [2] => Some(Mode::Periodic),
-            _ => None,
-        }
-    }
-
-    fn write(&self, part: &mut [u8]) {
-        part.copy_from_slice(&[*self as u8]);
-    }
-}
-
-impl Value for MainDirection {
-    ghost reads = { direction_read };
-
-    ghost writes = { λ v. direction_code v ∷ [] };
-
-    fn from_bytes(bytes: &[u8]) -> Option<MainDirection> {
-        match bytes {
-            [0] => Some(MainDirection::Neither),
-            [1] => Some(MainDirection::Up),
-            [2] => Some(MainDirection::Down),
-            _ => None,
-        }
-    }
-
-    fn write(&self, part: &mut [u8]) {
-        part.copy_from_slice(&[*self as u8]);
-    }
-}
-
-impl Value for PickedEvaluation {
-    ghost reads = { evaluation_read };
-
-    ghost writes = { λ v. evaluation_code v ∷ [] };
-
-    fn from_bytes(bytes: &[u8]) -> Option<PickedEvaluation> {
-        match bytes {
-            [0] => Some(PickedEvaluation::PulseDirection),
-            [1] => Some(PickedEvaluation::Single),
-            [2] => Some(PickedEvaluation::Double),
-            [4] => Some(PickedEvaluation::Quadruple),
-            _ => None,
-        }
-    }
-
-    fn write(&self, part: &mut [u8]) {
-        let code = match self {
-            PickedEvaluation::PulseDirection => 0,
-            PickedEvaluation::Single => 1,
-            PickedEvaluation::Double => 2,
-            PickedEvaluation::Quadruple => 4,
+    #[tactic(auto, unfolding(crate::specs::Values::coded))]
+    fn from_bytes(bytes: &[u8]) -> Option<C> {
+        let [code] = bytes else {
+            return None;
         };
-        part.copy_from_slice(&[code]);
-    }
-}
-
-impl Value for bool {
-    ghost reads = { flag_read };
-
-    ghost writes = { λ v. flag_code v ∷ [] };
-
-    fn from_bytes(bytes: &[u8]) -> Option<bool> {
-        match bytes {
-            [0] => Some(false),
-            [1] => Some(true),
-            _ => None,
-        }
+        C::from_code(*code)
     }
 
-    fn write(&self, part: &mut [u8]) {
-        part.copy_from_slice(&[u8::from(*self)]);
-    }
-}
-
-impl Value for DiFunction {
-    ghost reads = { di_read };
-
-    ghost writes = { λ v. di_code v ∷ [] };
-
-    fn from_bytes(bytes: &[u8]) -> Option<DiFunction> {
-        match bytes {
-            [0] => Some(DiFunction::Input),
-            [1] => Some(DiFunction::HardwareGate),
-            [2] => Some(DiFunction::LatchAndRetrigger),
-            [3] => Some(DiFunction::Synchronisation),
-            [4] => Some(DiFunction::Latch),
-            _ => None,
-        }
-    }
-
-    fn write(&self, part: &mut [u8]) {
-        part.copy_from_slice(&[*self as u8]);
-    }
-}
-
-impl Value for GateFunction {
-    ghost reads = { gate_read };
-
-    ghost writes = { λ v. gate_code v ∷ [] };
-
-    fn from_bytes(bytes: &[u8]) -> Option<GateFunction> {
-        match bytes {
-            [0] => Some(GateFunction::Cancel),
-            [1] => Some(GateFunction::Interrupt),
-            _ => None,
-        }
-    }
-
-    fn write(&self, part: &mut [u8]) {
-        part.copy_from_slice(&[*self as u8]);
-    }
-}
-
-impl Value for Synchronisation {
-    ghost reads = { synchronisation_read };
-
-    ghost writes = { λ v. synchronisation_code v ∷ [] };
-
-    fn from_bytes(bytes: &[u8]) -> Option<Synchronisation> {
-        match bytes {
-            [0] => Some(Synchronisation::Once),
-            [1] => Some(Synchronisation::Periodic),
-            _ => None,
-        }
-    }
-
-    fn write(&self, part: &mut [u8]) {
-        part.copy_from_slice(&[*self as u8]);
-    }
-}
-
-impl Value for Behaviour {
-    ghost reads = { behaviour_read };
-
-    ghost writes = { λ v. behaviour_code v ∷ [] };
-
-    fn from_bytes(bytes: &[u8]) -> Option<Behaviour> {
-        match bytes {
-            [0] => Some(Behaviour::FollowsBit),
-            [1] => Some(Behaviour::OnAtOrAbove),
-            [2] => Some(Behaviour::OnAtOrBelow),
-            [3] => Some(Behaviour::Pulse),
-            _ => None,
-        }
-    }
-
-    fn write(&self, part: &mut [u8]) {
-        part.copy_from_slice(&[*self as u8]);
+    fn write(self, part: &mut [u8]) {
+        part.copy_from_slice(&[self.code()]);
     }
 }
 
@@ -194,7 +52,7 @@ impl Value for i32 {
         }
     }
 
-    fn write(&self, part: &mut [u8]) {
+    fn write(self, part: &mut [u8]) {
         part.copy_from_slice(&self.to_be_bytes());
     }
 }
@@ -216,7 +74,7 @@ impl Value for End {
         Some(End(end))
     }
 
-    fn write(&self, part: &mut [u8]) {
+    fn write(self, part: &mut [u8]) {
         self.0.write(part);
     }
 }
@@ -242,9 +100,16 @@ impl Value for Output {
         Some(output)
     }
 
-    fn write(&self, part: &mut [u8]) {
-        let code = self.behaviour as u8;
+    fn write(self, part: &mut [u8]) {
         let [a, b, c, d] = self.comparison.to_be_bytes();
-        part.copy_from_slice(&[code, self.hysteresis, self.duration, a, b, c, d]);
+        part.copy_from_slice(&[
+            self.behaviour.code(),
+            self.hysteresis,
+            self.duration,
+            a,
+            b,
+            c,
+            d,
+        ]);
     }
 }

@@ -1,6 +1,6 @@
 // Writes a parameter record.
-ghost use Rattle.std.specs.Prelude.{◌≡◌, ◌+◌, ◌≤◌, [], ◌++◌, length, drop};
-ghost use Rattle.settings.specs.Fields.{size_of, place_of, record_size, written, overlaid};
+ghost use Rattle.std.specs.Prelude.{◌≡◌, length};
+ghost use Rattle.settings.specs.Fields.{size_of, place_of, written, overlaid};
 ghost use Rattle.settings.specs.Record.{record_of, Writes, ReadsBack};
 
 use crate::choices::Choices;
@@ -18,56 +18,44 @@ impl Parameters {
         if buffer.len() < RECORD_SIZE {
             return Err(Refusal::new(Reason::BufferTooShort, 0));
         }
-        put_choices(buffer, &self.choices());
+        buffer[..RECORD_SIZE].copy_from_slice(&record_of(&self.choices()));
         Ok(())
     }
 }
 
-fn put_choices(buffer: &mut [u8], choices: &Choices)
-    requires { record_size ≤ length buffer.old }
-    ensures { buffer.new ≡ record_of choices.now ++ drop record_size buffer.old }
+// The record of some choices.
+fn record_of(choices: &Choices) -> [u8; RECORD_SIZE]
+    ensures { result ≡ record_of choices.now }
 {
-    put(buffer, Field::Mode, &choices.mode);
-    put(buffer, Field::Direction, &choices.direction);
-    put(buffer, Field::End, &choices.end);
-    put(buffer, Field::Load, &choices.load);
-    put(buffer, Field::Evaluation, &choices.evaluation);
-    put(buffer, Field::BInverted, &choices.b_inverted);
-    put(buffer, Field::DiFunction, &choices.di_function);
+    let mut bytes = [0; RECORD_SIZE];
+    put(&mut bytes, Field::Mode, choices.mode);
+    put(&mut bytes, Field::Direction, choices.direction);
+    put(&mut bytes, Field::End, choices.end);
+    put(&mut bytes, Field::Load, choices.load);
+    put(&mut bytes, Field::Evaluation, choices.evaluation);
+    put(&mut bytes, Field::BInverted, choices.b_inverted);
+    put(&mut bytes, Field::DiFunction, choices.di_function);
     put(
-        buffer,
+        &mut bytes,
         Field::GateInputInverted,
-        &choices.gate_input_inverted,
+        choices.gate_input_inverted,
     );
-    put(buffer, Field::Gate, &choices.gate);
-    put(buffer, Field::Synchronisation, &choices.synchronisation);
-    put(buffer, Field::Output1, &choices.output1);
-    put(buffer, Field::Output2, &choices.output2);
+    put(&mut bytes, Field::Gate, choices.gate);
+    put(&mut bytes, Field::Synchronisation, choices.synchronisation);
+    put(&mut bytes, Field::Output1, choices.output1);
+    put(&mut bytes, Field::Output2, choices.output2);
+    bytes
 }
 
 // Puts a field to its place.
-fn put<V: Value>(buffer: &mut [u8], field: Field, value: &V)
-    requires size { length (V.Value.writes value.now) ≡ size_of field }
-    requires room { place_of field + (3 + size_of field) ≤ length buffer.old }
-    ensures { buffer.new ≡ overlaid (place_of field) (written field (V.Value.writes value.now)) buffer.old }
-{
-    put_header(buffer, field);
-    put_value(buffer, field.place() + HEADER_SIZE, field.size(), value);
-}
-
-fn put_header(buffer: &mut [u8], field: Field)
-    requires { place_of field + 3 ≤ length buffer.old }
-    ensures { buffer.new ≡ overlaid (place_of field) (written field []) buffer.old }
+fn put<V: Value>(bytes: &mut [u8; RECORD_SIZE], field: Field, value: V)
+    requires { length (V.Value.writes value) ≡ size_of field }
+    ensures { bytes.new ≡ overlaid (place_of field) (written field (V.Value.writes value)) bytes.old }
 {
     let place = field.place();
-    let [high, low] = (field.size() as u16).to_be_bytes();
-    buffer[place..place + HEADER_SIZE].copy_from_slice(&[field.tag(), high, low]);
-}
-
-fn put_value<V: Value>(buffer: &mut [u8], place: usize, size: usize, value: &V)
-    requires size { length (V.Value.writes value.now) ≡ size }
-    requires room { place + size ≤ length buffer.old }
-    ensures { buffer.new ≡ overlaid place (V.Value.writes value.now) buffer.old }
-{
-    value.write(&mut buffer[place..place + size]);
+    let size = field.size();
+    let [high, low] = (size as u16).to_be_bytes();
+    bytes[place..place + HEADER_SIZE].copy_from_slice(&[field.tag(), high, low]);
+    let value_place = place + HEADER_SIZE;
+    value.write(&mut bytes[value_place..value_place + size]);
 }

@@ -1,14 +1,20 @@
-use Rattle.std.proofs.Common.{◌≡◌, ℕ, ◌+◌, List, [], ap, ◌∙◌, arith}
-use Rattle.settings.specs.Fields.{place_of, written, overlaid}
-use Rattle.settings.proofs.Writing.{put_twice}
+use Rattle.std.proofs.Common.{◌≡◌, ℕ, ◌+◌, ◌≤◌, List, [], ◌++◌, length, take, drop, arith, append_assoc, length-append, ap, sym, ◌∙◌}
+use Rattle.std.proofs.lemmas.Grind.{common_steps}
+use Rattle.std.proofs.lemmas.List.{drop-drop}
+use Rattle.std.proofs.lemmas.Slice.{take-put_mid, drop-put_mid}
+use borrow.Rule.Slice.PartMut.{put_mid}
+use Rattle.settings.specs.Fields.{written, overlaid}
 use Rattle.settings.proofs.writer.put.Goals as goal
 
--- the header and the value are put one behind the other
+-- two parts that are written one behind the other are put as one
+put_twice : (p q n m : ℕ) (bytes header value head tail : List ℕ) → head ≡ header → tail ≡ value → q ≡ p + n → n ≡ length header → m ≡ length value → p ≤ length bytes → put_mid q m (put_mid p n bytes head) tail ≡ overlaid p (header ++ value) bytes
+put_twice p q n m bytes header value head tail h t at sized last room =
+    let front : take q (put_mid p n bytes header) ≡ take p bytes ++ header = take-put_mid p n bytes header q (omega arith) (omega arith) in
+    let end : q + m ≡ p + length (header ++ value) = simp length-append (omega arith) in
+    let back : drop m (drop q (put_mid p n bytes header)) ≡ drop (length (header ++ value)) (drop p bytes) = drop-drop m q (put_mid p n bytes header) ∙ (drop-put_mid p n bytes header (q + m) (omega arith) (omega arith) (omega arith) ∙ (ap (λ k. drop k bytes) end ∙ sym (drop-drop (length (header ++ value)) p bytes))) in
+    rw (h, t) (simp (front, back, append_assoc))
+
 pub returns : goal.returns
 returns g c =
-    let before : List ℕ = c.args.buffer.now in
-    let value : List ℕ = g.V.Value.writes c.args.value.now in
-    let place : c.place.result ≡ place_of c.args.field = c.place.ensures in
-    c.put_value.ensures
-    ∙ (ap (overlaid (c.place.result + 3) value) c.put_header.ensures
-    ∙ put_twice (place_of c.args.field) (c.place.result + 3) before (written c.args.field []) value (omega arith) (omega arith))
+    let head : c.copy_from_slice.new.self ≡ written c.args.field [] = grind (arith, common_steps) in
+    rw c.place-place.ensures (put_twice _ _ _ _ _ _ _ _ _ head c.write.ensures (omega arith) (omega arith) (omega arith) (grind (arith, common_steps)))
