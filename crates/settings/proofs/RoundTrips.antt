@@ -1,5 +1,6 @@
 -- Both round trips.
-use Rattle.std.proofs.Common.{◌≡◌, ℕ, Bool, true, false, cond, not, ◌&&◌, List, [], ◌∷◌, ℤ, pos, negsuc, ◌≤ℤ◌, is_some, Some, None, Ok, Err, Option, Result, refl, ap, ◌∙◌, arith, get_or, w8, Fits, w32, SFits, to_z, of_z}
+use Rattle.std.proofs.Common.{◌≡◌, ℕ, Bool, true, false, cond, not, ◌&&◌, List, [], ◌∷◌, ℤ, pos, negsuc, ◌≤ℤ◌, is_some, Some, None, Ok, Err, Option, Result, refl, ap, ◌∙◌, arith, rules, get_or, w8, Fits, w32, SFits, to_z, of_z}
+use Rattle.std.proofs.lemmas.Bool.{and_parts}
 use Rattle.std.proofs.lemmas.Int.{ints, to_z-of_z}
 use Rattle.std.specs.List.{AllByRecursion as All}
 use Rattle.std.proofs.ByRecursion.{All-from_get_or}
@@ -9,18 +10,16 @@ use Rattle.refusal.specs.declared.Reason.TheVariants.{ValueOutOfRange, FieldsCon
 use Rattle.settings.specs.declared.field.Field.{Field}
 use Rattle.settings.specs.declared.choices.Choices.{Choices}
 use Rattle.counter.specs.declared.mode.Mode.{Mode}
-use Rattle.counter.specs.declared.mode.Mode.TheVariants as mode
 use Rattle.counter.specs.declared.mode.MainDirection.{MainDirection}
-use Rattle.counter.specs.declared.mode.MainDirection.TheVariants as direction
 use Rattle.counter.specs.Counting.{LOW, HIGH, accepts}
 use Rattle.counter.specs.Rows.{row, has_row, end_fits, row_fits}
-use Rattle.settings.specs.Values.{duration_fits, number_written, modes, directions, evaluations, flags, di_functions, gate_functions, synchronisations, mode_code, direction_code, evaluation_code, flag_code, di_code, gate_code, synchronisation_code, output_written, mode_read, direction_read, end_read, number_read, evaluation_read, flag_read, di_read, gate_read, synchronisation_read, output_read}
+use Rattle.settings.specs.Values.{duration_fits, modes, directions, evaluations, flags, di_functions, gate_functions, synchronisations, mode_code, direction_code, evaluation_code, flag_code, di_code, gate_code, synchronisation_code}
 use Rattle.settings.specs.Record.{choices_read, record_of, verdict, Gives, AcceptsOwn}
 use Rattle.settings.specs.Rule.{◌and_then◌}
 use Rattle.settings.specs.Checks.{Finding, first_wrong, within, ranges, conflicts, first_out_of_range, first_conflict, unless, ranged, checked, agreed, keeps}
 use Rattle.settings.specs.declared.field.Field.TheVariants as field
-use Rattle.settings.proofs.Reading.{Owns, field_owns, ended}
-use Rattle.settings.proofs.Values.{backs, end_back, number_made, Byte, coded_own, number_own, end_own, output_own}
+use Rattle.settings.proofs.Reading.{field_owns, ended}
+use Rattle.settings.proofs.Values.{backs, Byte, coded_own, number_own, end_own, output_own}
 
 pub record Numbers (c : Choices) : Type 0 where
   pub end : SFits w32 c.end
@@ -28,105 +27,47 @@ pub record Numbers (c : Choices) : Type 0 where
   pub first : SFits w32 c.output1.comparison
   pub second : SFits w32 c.output2.comparison
 
-ranged_by : (c : Choices) → Numbers c → (b d e : Bool) → end_fits c.end ≡ b → duration_fits c.output1.duration ≡ d → duration_fits c.output2.duration ≡ e → choices_read (record_of c) ≡ ranged c
-ranged_by c fits false d e hb hd he =
-    let end = end_back c.end fits.end in
-    simp (backs, end, hb, ranged)
-ranged_by c fits true false e hb hd he =
-    let end = end_back c.end fits.end in
-    let load = number_made c.load fits.load in
-    simp (backs, end, load, hb, hd, ranged)
-ranged_by c fits true true false hb hd he =
-    let end = end_back c.end fits.end in
-    let load = number_made c.load fits.load in
-    let first = number_made c.output1.comparison fits.first in
-    simp (backs, end, load, first, hb, hd, he, ranged)
-ranged_by c fits true true true hb hd he =
-    let end = end_back c.end fits.end in
-    let load = number_made c.load fits.load in
-    let first = number_made c.output1.comparison fits.first in
-    let second = number_made c.output2.comparison fits.second in
-    simp (backs, end, load, first, second, hb, hd, he, ranged)
+-- by whether the end value and the two durations are in their ranges
+ranged_by : (c : Choices) (b d e : Bool) → end_fits c.end ≡ b → duration_fits c.output1.duration ≡ d → duration_fits c.output2.duration ≡ e → SFits w32 c.end → SFits w32 c.load → SFits w32 c.output1.comparison → SFits w32 c.output2.comparison → choices_read (record_of c) ≡ ranged c
+ranged_by c false d e hb hd he end load first second = simp (backs, hb, ranged)
+ranged_by c true false e hb hd he end load first second = simp (backs, hb, hd, ranged)
+ranged_by c true true false hb hd he end load first second = simp (backs, hb, hd, he, ranged)
+ranged_by c true true true hb hd he end load first second = simp (backs, hb, hd, he, ranged)
 
 pub ranged_record : (c : Choices) → Numbers c → choices_read (record_of c) ≡ ranged c
-ranged_record c fits = ranged_by c fits (end_fits c.end) (duration_fits c.output1.duration) (duration_fits c.output2.duration) refl refl refl
+ranged_record c n = ranged_by c (end_fits c.end) (duration_fits c.output1.duration) (duration_fits c.output2.duration) refl refl refl n.end n.load n.first n.second
 
 -- the verdict on the record of some choices
 pub verdict_record : (c : Choices) → Numbers c → verdict (record_of c) ≡ checked c
 verdict_record c fits = ap (λ r. r and_then agreed) (ranged_record c fits)
 
 -- a record whose fields were read is the record of the choices that were read
-owned : Owns choices_read (λ c. Unit {0}) record_of
-owned =
-    field_owns field.Mode mode_read (λ v. mode_code v ∷ []) (λ c. c.mode) (coded_own mode_code modes) (λ mode.
-    field_owns field.Direction direction_read (λ v. direction_code v ∷ []) (λ c. c.direction) (coded_own direction_code directions) (λ direction.
-    field_owns field.End end_read (λ v. number_written v.0) (λ c. record { 0 = c.end }) end_own (λ end.
-    field_owns field.Load number_read number_written (λ c. c.load) number_own (λ load.
-    field_owns field.Evaluation evaluation_read (λ v. evaluation_code v ∷ []) (λ c. c.evaluation) (coded_own evaluation_code evaluations) (λ evaluation.
-    field_owns field.BInverted flag_read (λ v. flag_code v ∷ []) (λ c. c.b_inverted) (coded_own flag_code flags) (λ b_inverted.
-    field_owns field.DiFunction di_read (λ v. di_code v ∷ []) (λ c. c.di_function) (coded_own di_code di_functions) (λ di.
-    field_owns field.GateInputInverted flag_read (λ v. flag_code v ∷ []) (λ c. c.gate_input_inverted) (coded_own flag_code flags) (λ gate_inverted.
-    field_owns field.Gate gate_read (λ v. gate_code v ∷ []) (λ c. c.gate) (coded_own gate_code gate_functions) (λ gate.
-    field_owns field.Synchronisation synchronisation_read (λ v. synchronisation_code v ∷ []) (λ c. c.synchronisation) (coded_own synchronisation_code synchronisations) (λ synchronisation.
-    field_owns field.Output1 output_read output_written (λ c. c.output1) output_own (λ output1.
-    field_owns field.Output2 output_read output_written (λ c. c.output2) output_own (λ output2 bytes b all e.
-    let end_of = ended (record { mode = mode; direction = direction; end = end.0; load = load; evaluation = evaluation; b_inverted = b_inverted; di_function = di; gate_input_inverted = gate_inverted; gate = gate; synchronisation = synchronisation; output1 = output1; output2 = output2 }) bytes b e in
-    let is = end_of.0 in (
-      (
-        (
-          (
-            (
-              (
-                (
-                  (
-                    (
-                      (
-                        (
-                          (
-                            (
-                              tt,
-                              ap (λ c. c.mode) is,
-                            ),
-                            ap (λ c. c.direction) is,
-                          ),
-                          ap (λ c. record { 0 = c.end }) is,
-                        ),
-                        ap (λ c. c.load) is,
-                      ),
-                      ap (λ c. c.evaluation) is,
-                    ),
-                    ap (λ c. c.b_inverted) is,
-                  ),
-                  ap (λ c. c.di_function) is,
-                ),
-                ap (λ c. c.gate_input_inverted) is,
-              ),
-              ap (λ c. c.gate) is,
-            ),
-            ap (λ c. c.synchronisation) is,
-          ),
-          ap (λ c. c.output1) is,
-        ),
-        ap (λ c. c.output2) is,
-      ),
-      end_of.1,
-    )))))))))))))
-
 pub own_record : (bytes : List ℕ) (c : Choices) → ((i : ℕ) → Fits w8 (get_or bytes i 0)) → choices_read bytes ≡ Ok c → bytes ≡ record_of c
-own_record bytes c fit e = (owned bytes c (All-from_get_or Byte bytes 0 (λ i l. omega (arith, fit i))) e).1
+own_record bytes c fit e =
+    let all : All Byte bytes = All-from_get_or Byte bytes 0 (λ i l. omega (arith, fit i)) in
+    field_owns field.Mode _ _ (coded_own mode_code modes) bytes all e (λ mode r1 all1 e1 s1.
+    field_owns field.Direction _ _ (coded_own direction_code directions) r1 all1 e1 (λ direction r2 all2 e2 s2.
+    field_owns field.End _ _ end_own r2 all2 e2 (λ end r3 all3 e3 s3.
+    field_owns field.Load _ _ number_own r3 all3 e3 (λ load r4 all4 e4 s4.
+    field_owns field.Evaluation _ _ (coded_own evaluation_code evaluations) r4 all4 e4 (λ evaluation r5 all5 e5 s5.
+    field_owns field.BInverted _ _ (coded_own flag_code flags) r5 all5 e5 (λ b_inverted r6 all6 e6 s6.
+    field_owns field.DiFunction _ _ (coded_own di_code di_functions) r6 all6 e6 (λ di r7 all7 e7 s7.
+    field_owns field.GateInputInverted _ _ (coded_own flag_code flags) r7 all7 e7 (λ gate_inverted r8 all8 e8 s8.
+    field_owns field.Gate _ _ (coded_own gate_code gate_functions) r8 all8 e8 (λ gate r9 all9 e9 s9.
+    field_owns field.Synchronisation _ _ (coded_own synchronisation_code synchronisations) r9 all9 e9 (λ synchronisation r10 all10 e10 s10.
+    field_owns field.Output1 _ _ output_own r10 all10 e10 (λ output1 r11 all11 e11 s11.
+    field_owns field.Output2 _ _ output_own r11 all11 e11 (λ output2 r12 all12 e12 s12.
+    let end_of = ended _ r12 c e12 in
+    rw (s1, s2, s3, s4, s5, s6, s7, s8, s9, s10, s11, s12, end_of.0, end_of.1) refl))))))))))))
 
 -- choices that keep to everything are accepted
 unless_none : (reason : Reason) (o : Option Field) (c : Choices) → not (is_some o) ≡ true → unless reason o c ≡ Ok c
 unless_none reason None c h = refl
 unless_none reason (Some f) c h = cc
 
-kept_both : (a b : Bool) → (a && b) ≡ true → (a ≡ true) × (b ≡ true)
-kept_both true b h = (refl, h)
-kept_both false b h = let z : ◌≡◌ {A = ℕ} 0 1 = cc in absurd (omega arith)
-
 kept_checked : (c : Choices) → keeps c ≡ true → checked c ≡ Ok c
 kept_checked c kept =
-    let both = kept_both (not (is_some (first_out_of_range c))) (not (is_some (first_conflict c))) kept in
+    let both = and_parts (not (is_some (first_out_of_range c))) (not (is_some (first_conflict c))) kept in
     ap (λ r. r and_then agreed) (unless_none ValueOutOfRange (first_out_of_range c) c both.0) ∙ unless_none FieldsConflict (first_conflict c) c both.1
 
 -- what agreement accepts it leaves as it is
@@ -147,7 +88,7 @@ fits_by (pos n) l h = record { sfits = omega (arith, ints) }
 fits_by (negsuc n) l h = record { sfits = omega (arith, ints) }
 
 none_by : (f : Finding) (fs : List Finding) (b : Bool) → f.wrong ≡ b → (not (is_some (first_wrong fs)) ≡ true → All Right fs) → not (is_some (cond b (Some f.field) (first_wrong fs))) ≡ true → All Right (f ∷ fs)
-none_by f fs true is later e = let z : ◌≡◌ {A = ℕ} 0 1 = cc in absurd (omega arith)
+none_by f fs true is later e = absurd cc
 none_by f fs false is later e = (is, later e)
 
 none_wrong : (fs : List Finding) → not (is_some (first_wrong fs)) ≡ true → All Right fs
@@ -155,17 +96,11 @@ none_wrong [] h = tt
 none_wrong (f ∷ fs) h = none_by f fs f.wrong refl (none_wrong fs) h
 
 within_fits : (m : Mode) (d : MainDirection) (end load value : ℤ) → not (end_fits end) ≡ false → not (accepts (row m d end load) value) ≡ false → SFits w32 value
-within_fits mode.Endless d end load value e w = fits_by value (grind (arith, ints)) (grind (arith, ints))
-within_fits mode.Once direction.Neither end load value e w = fits_by value (grind (arith, ints)) (grind (arith, ints))
-within_fits mode.Once direction.Up end load value e w = fits_by value (grind (arith, ints)) (grind (arith, ints))
-within_fits mode.Once direction.Down end load value e w = fits_by value (grind (arith, ints)) (grind (arith, ints))
-within_fits mode.Periodic direction.Neither end load value e w = fits_by value (grind (arith, ints)) (grind (arith, ints))
-within_fits mode.Periodic direction.Up end load value e w = fits_by value (grind (arith, ints)) (grind (arith, ints))
-within_fits mode.Periodic direction.Down end load value e w = fits_by value (grind (arith, ints)) (grind (arith, ints))
+within_fits m d end load value e w = fits_by value (grind (arith, ints)) (grind (arith, ints))
 
 pub kept_numbers : (c : Choices) → keeps c ≡ true → Numbers c
 kept_numbers c kept =
-    let both = kept_both (not (is_some (first_out_of_range c))) (not (is_some (first_conflict c))) kept in
+    let both = and_parts (not (is_some (first_out_of_range c))) (not (is_some (first_conflict c))) kept in
     let right = none_wrong (ranges c) both.0 in
     let agree = none_wrong (conflicts c) both.1 in
     let fit : (value : ℤ) → not (within c value) ≡ false → SFits w32 value = λ value. within_fits c.mode c.direction c.end c.load value right.0 in
@@ -174,14 +109,11 @@ kept_numbers c kept =
 
 -- and there is a counter of theirs
 all_three : (a b c : Bool) → not a ≡ false → not b ≡ false → not c ≡ false → (a && (b && c)) ≡ true
-all_three true true true x y z = refl
-all_three true true false x y z = cc
-all_three true false c x y z = cc
-all_three false b c x y z = cc
+all_three a b c x y z = search rules
 
 pub kept_row : (c : Choices) → keeps c ≡ true → row_fits c.mode c.direction c.end c.load ≡ true
 kept_row c kept =
-    let both = kept_both (not (is_some (first_out_of_range c))) (not (is_some (first_conflict c))) kept in
+    let both = and_parts (not (is_some (first_out_of_range c))) (not (is_some (first_conflict c))) kept in
     let right = none_wrong (ranges c) both.0 in
     let agree = none_wrong (conflicts c) both.1 in
     all_three (has_row c.mode c.direction) (end_fits c.end) (within c c.load) agree.0 right.0 agree.1.0

@@ -1,6 +1,9 @@
 -- The values of fields: what is written reads back, and what is read was written so.
-use Rattle.std.proofs.Common.{◌≡◌, ℕ, ◌+◌, ◌*◌, ◌/◌, ◌%◌, ◌^◌, ◌<◌, Bool, true, false, cond, eqb, List, [], ◌∷◌, ℤ, pos, negsuc, Some, None, Option, refl, ap, ◌∙◌, arith, w32, SFits, to_z, of_z, eqb-true}
+use Rattle.std.proofs.Common.{◌≡◌, ℕ, ◌+◌, ◌*◌, ◌/◌, ◌%◌, ◌<◌, Bool, true, false, cond, eqb, List, [], ◌∷◌, ℤ, Some, None, Option, refl, ap, ◌∙◌, arith, w32, SFits, to_z, of_z, eqb-true}
 use Rattle.std.proofs.lemmas.Int.{to_z-of_z, of_z-to_z}
+use Rattle.std.proofs.lemmas.Nat.{from_be_bytes-to_be_bytes_4}
+use Rattle.std.proofs.lemmas.Option.{cond_some}
+use Rattle.std.proofs.Math.Facts.{Fits-of_z}
 use Rattle.std.specs.List.{AllByRecursion as All}
 use Rattle.settings.specs.declared.value.End.{End}
 use Rattle.counter.specs.declared.mode.Mode.{Mode}
@@ -58,8 +61,6 @@ pub behaviour_back : (v : Behaviour) → behaviour_read (behaviour_code v ∷ []
 unfolding coded
 behaviour_back = elim [ behaviour.FollowsBit ↦ refl | behaviour.OnAtOrAbove ↦ refl | behaviour.OnAtOrBelow ↦ refl | behaviour.Pulse ↦ refl ]
 
-pub ruleset backs = (mode_back, direction_back, evaluation_back, flag_back, di_back, gate_back, synchronisation_back, behaviour_back)
-
 -- a choice that was read has the code that stood there
 decoded_by : {V : Type 0} (code : V → ℕ) (w : V) (others : Option V) (c : ℕ) (v : V) (b : Bool) → eqb c (code w) ≡ b → (others ≡ Some v → c ≡ code v) → cond b (Some w) others ≡ Some v → c ≡ code v
 decoded_by code w others c v true is later e = eqb-true c (code w) is ∙ cc
@@ -69,32 +70,15 @@ decoded_code : {V : Type 0} (code : V → ℕ) (vs : List V) (c : ℕ) (v : V) �
 decoded_code code [] c v e = cc
 decoded_code code (w ∷ vs) c v e = decoded_by code w (decoded code vs c) c v (eqb c (code w)) refl (decoded_code code vs c v) e
 
-coded_code : {V : Type 0} (code : V → ℕ) (vs : List V) (bytes : List ℕ) (v : V) → coded code vs bytes ≡ Some v → bytes ≡ code v ∷ []
-unfolding coded
-coded_code code vs [] v e = cc
-coded_code code vs (c ∷ []) v e = ap (λ n. n ∷ []) (decoded_code code vs c v e)
-coded_code code vs (c ∷ d ∷ more) v e = cc
-
 pub coded_own : {V : Type 0} (code : V → ℕ) (vs : List V) (bytes : List ℕ) (v : V) → All Byte bytes → coded code vs bytes ≡ Some v → bytes ≡ code v ∷ []
-coded_own code vs bytes v all e = coded_code code vs bytes v e
+unfolding coded
+coded_own code vs [] v all e = cc
+coded_own code vs (c ∷ []) v all e = ap (λ n. n ∷ []) (decoded_code code vs c v e)
+coded_own code vs (c ∷ d ∷ more) v all e = cc
 
--- the four bytes of a number below 2 ^ 32 make it up again
-made_up : (n : ℕ) → n < 2 ^ 32 → n / 16777216 % 256 * 16777216 + n / 65536 % 256 * 65536 + n / 256 % 256 * 256 + n % 256 ≡ n
-made_up n h =
-    let p : n / 256 / 256 ≡ n / 65536 = omega arith in
-    let q : n / 65536 / 256 ≡ n / 16777216 = omega arith in
-    let r : n / 16777216 % 256 ≡ n / 16777216 = omega arith in
-    omega arith
-
-bits_fit : (z : ℤ) → SFits w32 z → of_z w32 z < 2 ^ 32
-bits_fit (pos n) f = omega (arith, f.sfits)
-bits_fit (negsuc n) f = omega arith
-
+-- the four bytes of a number make it up again
 pub number_made : (z : ℤ) → SFits w32 z → number (of_z w32 z / 16777216 % 256) (of_z w32 z / 65536 % 256) (of_z w32 z / 256 % 256) (of_z w32 z % 256) ≡ z
-number_made z fits = ap (to_z w32) (made_up (of_z w32 z) (bits_fit z fits)) ∙ to_z-of_z w32 z fits
-
-number_back : (z : ℤ) → SFits w32 z → number_read (number_written z) ≡ Some z
-number_back z fits = ap Some (number_made z fits)
+number_made z fits = ap (to_z w32) (from_be_bytes-to_be_bytes_4 (of_z w32 z) (omega (arith, Fits-of_z fits))) ∙ to_z-of_z w32 z fits
 
 -- and four bytes are those of the number that they make up
 number_bytes : (a b c d : ℕ) → a < 256 → b < 256 → c < 256 → d < 256 → a ∷ b ∷ c ∷ d ∷ [] ≡ number_written (number a b c d)
@@ -108,7 +92,9 @@ number_bytes a b c d ha hb hc hd =
 
 -- an end value reads back where it is in its range
 pub end_back : (z : ℤ) → SFits w32 z → end_read (number_written z) ≡ cond (end_fits z) (Some (record { 0 = z })) None
-end_back z fits = ap (λ r. end_valued r) (number_back z fits)
+end_back z fits = ap (λ n. end_valued (Some n)) (number_made z fits)
+
+pub ruleset backs = (mode_back, direction_back, evaluation_back, flag_back, di_back, gate_back, synchronisation_back, behaviour_back, number_made, end_back)
 
 -- numbers, end values and outputs that were read stood there as they are written
 pub number_own : (bytes : List ℕ) (z : ℤ) → All Byte bytes → number_read bytes ≡ Some z → bytes ≡ number_written z
@@ -121,39 +107,26 @@ number_own (a ∷ b ∷ c ∷ d ∷ []) z all e =
     number_bytes a b c d all.0 all.1.0 all.1.1.0 all.1.1.1.0 ∙ ap number_written is
 number_own (a ∷ b ∷ c ∷ d ∷ f ∷ more) z all e = cc
 
-end_is : (z : ℤ) (v : End) (b : Bool) → cond b (Some (record { 0 = z })) None ≡ Some v → z ≡ v.0
-end_is z v true e =
-    let w : End = record { 0 = z } in
-    let same : w ≡ v = cc in
-    ap (λ x. x.0) same
-end_is z v false e = cc
-
 end_by : (bytes : List ℕ) (v : End) (n : Option ℤ) → All Byte bytes → number_read bytes ≡ n → end_valued n ≡ Some v → bytes ≡ number_written v.0
 end_by bytes v None all is e = cc
-end_by bytes v (Some z) all is e = number_own bytes z all is ∙ ap number_written (end_is z v (end_fits z) e)
+end_by bytes v (Some z) all is e = number_own bytes z all is ∙ ap (λ v. number_written v.0) (cond_some (end_fits z) (record { 0 = z }) v e).1
 
 pub end_own : (bytes : List ℕ) (v : End) → All Byte bytes → end_read bytes ≡ Some v → bytes ≡ number_written v.0
 end_own bytes v all e = end_by bytes v (number_read bytes) all refl e
 
-output_is : (h d : ℕ) (b : Behaviour) (z : ℤ) (o : Output) (fits : Bool) → cond fits (Some (record { behaviour = b; hysteresis = h; duration = d; comparison = z })) None ≡ Some o → behaviour_code b ∷ h ∷ d ∷ number_written z ≡ output_written o
-output_is h d b z o true e =
-    let w : Output = record { behaviour = b; hysteresis = h; duration = d; comparison = z } in
-    let same : w ≡ o = cc in
-    ap output_written same
-output_is h d b z o false e = cc
-
-output_by : (c h d : ℕ) (comparison : List ℕ) (o : Output) (b : Option Behaviour) (n : Option ℤ) → All Byte comparison → behaviour_read (c ∷ []) ≡ b → number_read comparison ≡ n → output h d b n ≡ Some o → c ∷ h ∷ d ∷ comparison ≡ output_written o
+output_by : (c h d : ℕ) (comparison : List ℕ) (o : Output) (b : Option Behaviour) (n : Option ℤ) → All Byte comparison → decoded behaviour_code behaviours c ≡ b → number_read comparison ≡ n → output h d b n ≡ Some o → c ∷ h ∷ d ∷ comparison ≡ output_written o
 output_by c h d comparison o None n all is_b is-n e = cc
 output_by c h d comparison o (Some b) None all is_b is-n e = cc
 output_by c h d comparison o (Some b) (Some z) all is_b is-n e =
-    let code : c ∷ [] ≡ behaviour_code b ∷ [] = coded_code behaviour_code behaviours (c ∷ []) b is_b in
-    let first : c ≡ behaviour_code b = cc in
-    let last : comparison ≡ number_written z = number_own comparison z all is-n in
+    let first = decoded_code behaviour_code behaviours c b is_b in
+    let last = number_own comparison z all is-n in
+    let is = cond_some (duration_fits d) (record { behaviour = b; hysteresis = h; duration = d; comparison = z }) o e in
     let whole : c ∷ h ∷ d ∷ comparison ≡ behaviour_code b ∷ h ∷ d ∷ number_written z = cc in
-    whole ∙ output_is h d b z o (duration_fits d) e
+    whole ∙ ap output_written is.1
 
 pub output_own : (bytes : List ℕ) (o : Output) → All Byte bytes → output_read bytes ≡ Some o → bytes ≡ output_written o
+unfolding coded
 output_own [] o all e = cc
 output_own (b ∷ []) o all e = cc
 output_own (b ∷ h ∷ []) o all e = cc
-output_own (b ∷ h ∷ d ∷ comparison) o all e = output_by b h d comparison o (behaviour_read (b ∷ [])) (number_read comparison) all.1.1.1 refl refl e
+output_own (b ∷ h ∷ d ∷ comparison) o all e = output_by b h d comparison o (decoded behaviour_code behaviours b) (number_read comparison) all.1.1.1 refl refl e
