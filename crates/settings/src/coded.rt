@@ -8,31 +8,31 @@ use encoder::PickedEvaluation;
 
 // A choice with a code, and all the values that it has.
 pub trait Coded: Copy + 'static {
-    ghost codes: { Self → ℕ };
+    ghost code: { Self → ℕ };
 
-    ghost values: { List Self };
+    ghost all: { List Self };
 
     fn code(self) -> u8
-        ensures { result ≡ codes self };
+        ensures { result ≡ code self };
 
     fn all() -> &'static [Self]
-        ensures { result.now ≡ values };
+        ensures { result.now ≡ all };
 
     // The first value that has this code.
-    final fn from_code(code: u8) -> Option<Self>
-        ensures { result ≡ decoded codes values code }
+    final fn from_code(byte: u8) -> Option<Self>
+        ensures { result ≡ decoded code all byte }
     {
         Self::all()
             .iter()
             .copied()
-            .find(|value| code == value.code())
+            .find(|value| byte == value.code())
     }
 }
 
 impl Coded for Mode {
-    ghost codes = { mode_code };
+    ghost code = { mode_code };
 
-    ghost values = { modes };
+    ghost all = { modes };
 
     fn code(self) -> u8 {
         self as u8
@@ -44,9 +44,9 @@ impl Coded for Mode {
 }
 
 impl Coded for MainDirection {
-    ghost codes = { direction_code };
+    ghost code = { direction_code };
 
-    ghost values = { directions };
+    ghost all = { directions };
 
     fn code(self) -> u8 {
         self as u8
@@ -62,9 +62,9 @@ impl Coded for MainDirection {
 }
 
 impl Coded for PickedEvaluation {
-    ghost codes = { evaluation_code };
+    ghost code = { evaluation_code };
 
-    ghost values = { evaluations };
+    ghost all = { evaluations };
 
     fn code(self) -> u8 {
         match self {
@@ -86,9 +86,9 @@ impl Coded for PickedEvaluation {
 }
 
 impl Coded for bool {
-    ghost codes = { flag_code };
+    ghost code = { flag_code };
 
-    ghost values = { flags };
+    ghost all = { flags };
 
     fn code(self) -> u8 {
         u8::from(self)
@@ -100,9 +100,9 @@ impl Coded for bool {
 }
 
 impl Coded for DiFunction {
-    ghost codes = { di_code };
+    ghost code = { di_code };
 
-    ghost values = { di_functions };
+    ghost all = { di_functions };
 
     fn code(self) -> u8 {
         self as u8
@@ -120,9 +120,9 @@ impl Coded for DiFunction {
 }
 
 impl Coded for GateFunction {
-    ghost codes = { gate_code };
+    ghost code = { gate_code };
 
-    ghost values = { gate_functions };
+    ghost all = { gate_functions };
 
     fn code(self) -> u8 {
         self as u8
@@ -134,9 +134,9 @@ impl Coded for GateFunction {
 }
 
 impl Coded for Synchronisation {
-    ghost codes = { synchronisation_code };
+    ghost code = { synchronisation_code };
 
-    ghost values = { synchronisations };
+    ghost all = { synchronisations };
 
     fn code(self) -> u8 {
         self as u8
@@ -148,9 +148,9 @@ impl Coded for Synchronisation {
 }
 
 impl Coded for Behaviour {
-    ghost codes = { behaviour_code };
+    ghost code = { behaviour_code };
 
-    ghost values = { behaviours };
+    ghost all = { behaviours };
 
     fn code(self) -> u8 {
         self as u8

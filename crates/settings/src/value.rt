@@ -23,9 +23,9 @@ pub trait Value: Sized {
 }
 
 impl<C: Coded> Value for C {
-    ghost reads = { coded C.codes C.values };
+    ghost reads = { coded C.code C.all };
 
-    ghost writes = { λ v. C.codes v ∷ [] };
+    ghost writes = { λ v. C.code v ∷ [] };
 
     #[tactic(auto, unfolding(crate::specs::Values::coded))]
     fn from_bytes(bytes: &[u8]) -> Option<C> {
@@ -46,10 +46,7 @@ impl Value for i32 {
     ghost writes = { number_written };
 
     fn from_bytes(bytes: &[u8]) -> Option<i32> {
-        match bytes {
-            [a, b, c, d] => Some(i32::from_be_bytes([*a, *b, *c, *d])),
-            _ => None,
-        }
+        bytes.try_into().ok().map(i32::from_be_bytes)
     }
 
     fn write(self, part: &mut [u8]) {
@@ -67,11 +64,8 @@ impl Value for End {
     ghost writes = { λ v. number_written v.0 };
 
     fn from_bytes(bytes: &[u8]) -> Option<End> {
-        let end = <i32 as Value>::from_bytes(bytes)?;
-        if end < LEAST_END {
-            return None;
-        }
-        Some(End(end))
+        let end = i32::from_bytes(bytes)?;
+        (end >= LEAST_END).then_some(End(end))
     }
 
     fn write(self, part: &mut [u8]) {
@@ -84,32 +78,23 @@ impl Value for Output {
 
     ghost writes = { output_written };
 
+    #[tactic(auto, unfolding(crate::specs::Values::coded))]
     fn from_bytes(bytes: &[u8]) -> Option<Output> {
         let [behaviour, hysteresis, duration, comparison @ ..] = bytes else {
             return None;
         };
         let output = Output {
-            behaviour: <Behaviour as Value>::from_bytes(&[*behaviour])?,
+            behaviour: Behaviour::from_code(*behaviour)?,
             hysteresis: *hysteresis,
             duration: *duration,
-            comparison: <i32 as Value>::from_bytes(comparison)?,
+            comparison: i32::from_bytes(comparison)?,
         };
-        if !output.duration_fits() {
-            return None;
-        }
-        Some(output)
+        output.duration_fits().then_some(output)
     }
 
     fn write(self, part: &mut [u8]) {
+        let code = self.behaviour.code();
         let [a, b, c, d] = self.comparison.to_be_bytes();
-        part.copy_from_slice(&[
-            self.behaviour.code(),
-            self.hysteresis,
-            self.duration,
-            a,
-            b,
-            c,
-            d,
-        ]);
+        part.copy_from_slice(&[code, self.hysteresis, self.duration, a, b, c, d]);
     }
 }
