@@ -34,12 +34,9 @@ ranged_by c true false e hb hd he end load first second = simp (backs, hb, hd, r
 ranged_by c true true false hb hd he end load first second = simp (backs, hb, hd, he, ranged)
 ranged_by c true true true hb hd he end load first second = simp (backs, hb, hd, he, ranged)
 
-pub ranged_record : (c : Choices) → Numbers c → choices_read (record_of c) ≡ ranged c
-ranged_record c n = ranged_by c (end_fits c.end) (duration_fits c.output1.duration) (duration_fits c.output2.duration) refl refl refl n.end n.load n.first n.second
-
--- the verdict on the record of some choices
+-- so the verdict on the record of some choices
 pub verdict_record : (c : Choices) → Numbers c → verdict (record_of c) ≡ checked c
-verdict_record c fits = ap (λ r. r and_then agreed) (ranged_record c fits)
+verdict_record c n = ap (λ r. r and_then agreed) (ranged_by c (end_fits c.end) (duration_fits c.output1.duration) (duration_fits c.output2.duration) refl refl refl n.end n.load n.first n.second)
 
 -- a record whose fields were read is the record of the choices that were read
 pub own_record : (bytes : List ℕ) (c : Choices) → ((i : ℕ) → Fits w8 (get_or bytes i 0)) → choices_read bytes ≡ Ok c → bytes ≡ record_of c
@@ -60,6 +57,15 @@ own_record bytes c fit e =
     let end_of = ended _ r12 c e12 in
     rw (s1, s2, s3, s4, s5, s6, s7, s8, s9, s10, s11, s12, end_of.0, end_of.1) refl))))))))))))
 
+-- what agreement accepts it leaves as it is
+unless_same : (reason : Reason) (o : Option Field) (c d : Choices) → unless reason o c ≡ Ok d → c ≡ d
+unless_same reason None c d e = cc
+unless_same reason (Some f) c d e = cc
+
+verdict_same : (r : Result Choices Refusal) (c : Choices) → (r and_then agreed) ≡ Ok c → r ≡ Ok c
+verdict_same (Err refused) c e = cc
+verdict_same (Ok d) c e = ap Ok (unless_same FieldsConflict (first_conflict d) d c e)
+
 -- choices that keep to everything are accepted
 unless_none : (reason : Reason) (o : Option Field) (c : Choices) → not (is_some o) ≡ true → unless reason o c ≡ Ok c
 unless_none reason None c h = refl
@@ -70,22 +76,9 @@ kept_checked c kept =
     let both = and_parts (not (is_some (first_out_of_range c))) (not (is_some (first_conflict c))) kept in
     ap (λ r. r and_then agreed) (unless_none ValueOutOfRange (first_out_of_range c) c both.0) ∙ unless_none FieldsConflict (first_conflict c) c both.1
 
--- what agreement accepts it leaves as it is
-unless_same : (reason : Reason) (o : Option Field) (c d : Choices) → unless reason o c ≡ Ok d → c ≡ d
-unless_same reason None c d e = cc
-unless_same reason (Some f) c d e = cc
-
-verdict_same : (r : Result Choices Refusal) (c : Choices) → (r and_then agreed) ≡ Ok c → r ≡ Ok c
-verdict_same (Err refused) c e = cc
-verdict_same (Ok d) c e = ap Ok (unless_same FieldsConflict (first_conflict d) d c e)
-
--- and their numbers fit 32 bits
+-- nothing is wrong with them
 abbrev Right : Finding → Type 0
 Right f = f.wrong ≡ false
-
-fits_by : (z : ℤ) → LOW ≤ℤ z → z ≤ℤ HIGH → SFits w32 z
-fits_by (pos n) l h = record { sfits = omega (arith, ints) }
-fits_by (negsuc n) l h = record { sfits = omega (arith, ints) }
 
 none_by : (f : Finding) (fs : List Finding) (b : Bool) → f.wrong ≡ b → (not (is_some (first_wrong fs)) ≡ true → All Right fs) → not (is_some (cond b (Some f.field) (first_wrong fs))) ≡ true → All Right (f ∷ fs)
 none_by f fs true is later e = absurd cc
@@ -95,34 +88,40 @@ none_wrong : (fs : List Finding) → not (is_some (first_wrong fs)) ≡ true →
 none_wrong [] h = tt
 none_wrong (f ∷ fs) h = none_by f fs f.wrong refl (none_wrong fs) h
 
+kept_right : (c : Choices) → keeps c ≡ true → All Right (ranges c) × All Right (conflicts c)
+kept_right c kept =
+    let both = and_parts (not (is_some (first_out_of_range c))) (not (is_some (first_conflict c))) kept in
+    (none_wrong (ranges c) both.0, none_wrong (conflicts c) both.1)
+
+-- their numbers fit 32 bits
+fits_by : (z : ℤ) → LOW ≤ℤ z → z ≤ℤ HIGH → SFits w32 z
+fits_by (pos n) l h = record { sfits = omega (arith, ints) }
+fits_by (negsuc n) l h = record { sfits = omega (arith, ints) }
+
 within_fits : (m : Mode) (d : MainDirection) (end load value : ℤ) → not (end_fits end) ≡ false → not (accepts (row m d end load) value) ≡ false → SFits w32 value
 within_fits m d end load value e w = fits_by value (grind (arith, ints)) (grind (arith, ints))
 
-pub kept_numbers : (c : Choices) → keeps c ≡ true → Numbers c
+kept_numbers : (c : Choices) → keeps c ≡ true → Numbers c
 kept_numbers c kept =
-    let both = and_parts (not (is_some (first_out_of_range c))) (not (is_some (first_conflict c))) kept in
-    let right = none_wrong (ranges c) both.0 in
-    let agree = none_wrong (conflicts c) both.1 in
-    let fit : (value : ℤ) → not (within c value) ≡ false → SFits w32 value = λ value. within_fits c.mode c.direction c.end c.load value right.0 in
-    let e : not (end_fits c.end) ≡ false = right.0 in
-    record { end = fits_by c.end (grind (arith, ints)) (grind (arith, ints)); load = fit c.load agree.1.0; first = fit c.output1.comparison agree.1.1.1.0; second = fit c.output2.comparison agree.1.1.1.1.0 }
+    let right = kept_right c kept in
+    let end : not (end_fits c.end) ≡ false = right.0.0 in
+    let fit : (value : ℤ) → not (within c value) ≡ false → SFits w32 value = λ value. within_fits c.mode c.direction c.end c.load value end in
+    record { end = fits_by c.end (grind (arith, ints)) (grind (arith, ints)); load = fit c.load right.1.1.0; first = fit c.output1.comparison right.1.1.1.1.0; second = fit c.output2.comparison right.1.1.1.1.1.0 }
 
 -- and there is a counter of theirs
 all_three : (a b c : Bool) → not a ≡ false → not b ≡ false → not c ≡ false → (a && (b && c)) ≡ true
 all_three a b c x y z = search rules
 
-pub kept_row : (c : Choices) → keeps c ≡ true → row_fits c.mode c.direction c.end c.load ≡ true
+kept_row : (c : Choices) → keeps c ≡ true → row_fits c.mode c.direction c.end c.load ≡ true
 kept_row c kept =
-    let both = and_parts (not (is_some (first_out_of_range c))) (not (is_some (first_conflict c))) kept in
-    let right = none_wrong (ranges c) both.0 in
-    let agree = none_wrong (conflicts c) both.1 in
-    all_three (has_row c.mode c.direction) (end_fits c.end) (within c c.load) agree.0 right.0 agree.1.0
+    let right = kept_right c kept in
+    all_three (has_row c.mode c.direction) (end_fits c.end) (within c c.load) right.1.0 right.0.0 right.1.1.0
 
 pub has_counter : (c : Choices) → keeps c ≡ true → row_fits c.mode c.direction (to_z w32 (of_z w32 c.end)) (to_z w32 (of_z w32 c.load)) ≡ true
 has_counter c kept =
-    let fits = kept_numbers c kept in
-    let end : SFits w32 c.end = fits.end in
-    let load : SFits w32 c.load = fits.load in
+    let numbers = kept_numbers c kept in
+    let end : SFits w32 c.end = numbers.end in
+    let load : SFits w32 c.load = numbers.load in
     simp to_z-of_z (kept_row c kept)
 
 -- so the record of such choices is accepted as theirs
@@ -134,5 +133,4 @@ pub accepts_own : {P : Type 0} (choices : P → Choices) → ((p : P) → keeps 
 accepts_own choices kept bytes (Ok p) fit gives = own_record bytes (choices p) fit (verdict_same (choices_read bytes) (choices p) gives)
 accepts_own choices kept bytes (Err refused) fit gives = λ p is.
     let ok : verdict bytes ≡ Ok (choices p) = ap verdict is ∙ record_back (choices p) (kept p) in
-    let z : ◌≡◌ {A = ℕ} 0 1 = cc in
-    omega arith
+    cc

@@ -38,8 +38,8 @@ impl Coded for Mode {
         self as u8
     }
 
-    fn all() -> &'static [Mode] {
-        &[Mode::Endless, Mode::Once, Mode::Periodic]
+    fn all() -> &'static [Self] {
+        &[Self::Endless, Self::Once, Self::Periodic]
     }
 }
 
@@ -52,12 +52,8 @@ impl Coded for MainDirection {
         self as u8
     }
 
-    fn all() -> &'static [MainDirection] {
-        &[
-            MainDirection::Neither,
-            MainDirection::Up,
-            MainDirection::Down,
-        ]
+    fn all() -> &'static [Self] {
+        &[Self::Neither, Self::Up, Self::Down]
     }
 }
 
@@ -68,19 +64,19 @@ impl Coded for PickedEvaluation {
 
     fn code(self) -> u8 {
         match self {
-            PickedEvaluation::PulseDirection => 0,
-            PickedEvaluation::Single => 1,
-            PickedEvaluation::Double => 2,
-            PickedEvaluation::Quadruple => 4,
+            Self::PulseDirection => 0,
+            Self::Single => 1,
+            Self::Double => 2,
+            Self::Quadruple => 4,
         }
     }
 
-    fn all() -> &'static [PickedEvaluation] {
+    fn all() -> &'static [Self] {
         &[
-            PickedEvaluation::PulseDirection,
-            PickedEvaluation::Single,
-            PickedEvaluation::Double,
-            PickedEvaluation::Quadruple,
+            Self::PulseDirection,
+            Self::Single,
+            Self::Double,
+            Self::Quadruple,
         ]
     }
 }
@@ -94,7 +90,7 @@ impl Coded for bool {
         u8::from(self)
     }
 
-    fn all() -> &'static [bool] {
+    fn all() -> &'static [Self] {
         &[false, true]
     }
 }
@@ -108,13 +104,13 @@ impl Coded for DiFunction {
         self as u8
     }
 
-    fn all() -> &'static [DiFunction] {
+    fn all() -> &'static [Self] {
         &[
-            DiFunction::Input,
-            DiFunction::HardwareGate,
-            DiFunction::LatchAndRetrigger,
-            DiFunction::Synchronisation,
-            DiFunction::Latch,
+            Self::Input,
+            Self::HardwareGate,
+            Self::LatchAndRetrigger,
+            Self::Synchronisation,
+            Self::Latch,
         ]
     }
 }
@@ -128,8 +124,8 @@ impl Coded for GateFunction {
         self as u8
     }
 
-    fn all() -> &'static [GateFunction] {
-        &[GateFunction::Cancel, GateFunction::Interrupt]
+    fn all() -> &'static [Self] {
+        &[Self::Cancel, Self::Interrupt]
     }
 }
 
@@ -142,8 +138,8 @@ impl Coded for Synchronisation {
         self as u8
     }
 
-    fn all() -> &'static [Synchronisation] {
-        &[Synchronisation::Once, Synchronisation::Periodic]
+    fn all() -> &'static [Self] {
+        &[Self::Once, Self::Periodic]
     }
 }
 
@@ -156,12 +152,12 @@ impl Coded for Behaviour {
         self as u8
     }
 
-    fn all() -> &'static [Behaviour] {
+    fn all() -> &'static [Self] {
         &[
-            Behaviour::FollowsBit,
-            Behaviour::OnAtOrAbove,
-            Behaviour::OnAtOrBelow,
-            Behaviour::Pulse,
+            Self::FollowsBit,
+            Self::OnAtOrAbove,
+            Self::OnAtOrBelow,
+            Self::Pulse,
         ]
     }
 }

@@ -15,11 +15,7 @@ impl Parameters {
         ensures { picked_means result ≡ picked_row self.now.choices }
     {
         let choices = self.choices();
-        let picked = PickedCounter::new(choices.mode, choices.direction, choices.end, choices.load);
-        match picked {
-            Some(counter) => counter,
-            None => unreachable(),
-        }
+        PickedCounter::new(choices.mode, choices.direction, choices.end, choices.load).unwrap()
     }
 
     // The evaluation of these parameters, behind the inversion stage where B is inverted.

@@ -18,14 +18,14 @@ impl Parameters {
         if buffer.len() < RECORD_SIZE {
             return Err(Refusal::new(Reason::BufferTooShort, 0));
         }
-        buffer[..RECORD_SIZE].copy_from_slice(&record_of(&self.choices()));
+        buffer[..RECORD_SIZE].copy_from_slice(&record_of(self.choices()));
         Ok(())
     }
 }
 
 // The record of some choices.
-fn record_of(choices: &Choices) -> [u8; RECORD_SIZE]
-    ensures { result ≡ record_of choices.now }
+fn record_of(choices: Choices) -> [u8; RECORD_SIZE]
+    ensures { result ≡ record_of choices }
 {
     let mut bytes = [0; RECORD_SIZE];
     put(&mut bytes, Field::Mode, choices.mode);
