@@ -58,6 +58,7 @@ pub enum Reason {
 }
 
 impl Reason {
+    // A caller asks for the number, so this is no conversion to u8.
     pub fn number(self) -> u8
         ensures { result ≡ number_of self }
     {

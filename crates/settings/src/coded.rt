@@ -63,12 +63,7 @@ impl Coded for PickedEvaluation {
     ghost all = { evaluations };
 
     fn code(self) -> u8 {
-        match self {
-            Self::PulseDirection => 0,
-            Self::Single => 1,
-            Self::Double => 2,
-            Self::Quadruple => 4,
-        }
+        self as u8
     }
 
     fn all() -> &'static [Self] {

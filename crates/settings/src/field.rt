@@ -25,6 +25,7 @@ pub const RECORD_SIZE: usize = 66;
 pub const HEADER_SIZE: usize = 3;
 
 impl Field {
+    // A caller asks for the tag, so this is no conversion to u8.
     pub fn tag(self) -> u8
         ensures { result ≡ tag_of self }
     {

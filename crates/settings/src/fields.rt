@@ -21,7 +21,8 @@ impl<'a> Fields<'a> {
         Fields { rest: record }
     }
 
-    // Cuts a field off, and answers the bytes of its value.
+    // Cuts a field off, and answers the bytes of its value. By a rule of the project it is taken apart
+    // with a let-else for each refusal, which carries the field's place.
     fn cut(&mut self, field: Field) -> Result<&'a [u8], Refusal>
         ensures { Takes (λ v. v.now) (cut field self.old.rest.now) self.new.rest.now result }
     {
