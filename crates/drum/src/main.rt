@@ -1,11 +1,12 @@
 // Winds a drum of cable from a capture of the encoder's lines, and prints the bill.
 #![tactic(auto)]
 
-use anyhow::anyhow;
+use anyhow::{Context, anyhow};
 use counter::{Counter, FullRange};
+use data_lines::data_line;
 use encoder::{Evaluation, PickedEvaluation, Quadruple};
-use std::io::{BufRead, BufReader, ErrorKind};
-use winding::{Wheel, Winding, bears_data, read_wheel, wind_line};
+use std::io::{BufRead, BufReader};
+use winding::{Wheel, Winding, read_wheel, wind_line};
 
 fn main(rt: HostRuntime) -> anyhow::Result<()> {
     run(&rt)
@@ -24,38 +25,23 @@ fn wind_all<E: Evaluation, C: Counter>(
     rt: &HostRuntime,
     winding: &mut Winding<E, C>,
 ) -> anyhow::Result<Wheel> {
-    let mut wheel = None;
-    for (index, line) in BufReader::new(rt.alloc(), rt.stdin())?
+    let mut lines = BufReader::new(rt.alloc(), rt.stdin())?
         .lines(rt.alloc())
         .enumerate()
-    {
-        let number = index.saturating_add(1);
-        let line = match line {
-            Ok(line) => line,
-            Err(e) if e.kind() == ErrorKind::InvalidData => {
-                eprintln!(rt; "line {number}: {e}")?;
-                continue;
-            }
-            Err(e) => return Err(e.into()),
-        };
-        let line = line.as_str();
-        if !bears_data(line) {
-            continue;
+        .filter_map(|(index, line)| data_line(rt, index, line));
+    let (number, line) = lines.next().context("the capture is empty")??;
+    let wheel = match read_wheel(line.as_str()) {
+        Ok(wheel) => wheel,
+        Err(fault) => {
+            eprintln!(rt; "line {number}: {fault}")?;
+            return Err(anyhow!("the capture does not begin with a wheel"));
         }
-        if wheel.is_none() {
-            match read_wheel(line) {
-                Ok(w) => wheel = Some(w),
-                Err(fault) => {
-                    eprintln!(rt; "line {number}: {fault}")?;
-                    return Err(anyhow!("the capture does not begin with a wheel"));
-                }
-            }
-        } else if let Err(fault) = wind_line(winding, line) {
+    };
+    for line in lines {
+        let (number, line) = line?;
+        if let Err(fault) = wind_line(winding, line.as_str()) {
             eprintln!(rt; "line {number}: {fault}")?;
         }
     }
-    match wheel {
-        Some(wheel) => Ok(wheel),
-        None => Err(anyhow!("the capture is empty")),
-    }
+    Ok(wheel)
 }

@@ -3,11 +3,12 @@
 
 use anyhow::anyhow;
 use counter::PickedCounter;
+use data_lines::data_line;
 use encoder::{PickedEvaluation, Staged};
 use hex_digits::{HexFault, from_hex};
 use settings::Parameters;
-use std::io::{BufRead, BufReader, ErrorKind};
-use winding::{Wheel, Winding, bears_data, read_wheel, record_digits, wind_line};
+use std::io::{BufRead, BufReader};
+use winding::{Wheel, Winding, read_wheel, record_digits, wind_line};
 
 // What the head of a capture sets up.
 #[derive(Drop)]
@@ -31,23 +32,13 @@ fn run(rt: &HostRuntime) -> anyhow::Result<()> {
 fn wind_all(rt: &HostRuntime) -> anyhow::Result<Drum> {
     let mut record = Vec::new(rt.alloc());
     let mut drum = None;
-    for (index, line) in BufReader::new(rt.alloc(), rt.stdin())?
-        .lines(rt.alloc())
+    let lines = BufReader::new(rt.alloc(), rt.stdin())?.lines(rt.alloc());
+    for line in lines
         .enumerate()
+        .filter_map(|(index, line)| data_line(rt, index, line))
     {
-        let number = index.saturating_add(1);
-        let line = match line {
-            Ok(line) => line,
-            Err(e) if e.kind() == ErrorKind::InvalidData => {
-                eprintln!(rt; "line {number}: {e}")?;
-                continue;
-            }
-            Err(e) => return Err(e.into()),
-        };
+        let (number, line) = line?;
         let line = line.as_str();
-        if !bears_data(line) {
-            continue;
-        }
         match drum.take() {
             Some(begun) => drum = Some(wind_sample(rt, begun, number, line)?),
             None => match record_digits(line) {
@@ -77,11 +68,11 @@ fn append(
             record.extend_from_slice(&bytes)?;
             Ok(())
         }
-        Err(HexFault::NotHex) => {
-            eprintln!(rt; "line {number}: not pairs of hexadecimal digits")?;
+        Err(HexFault::NoMemory) => Err(anyhow!("the record does not fit the memory")),
+        Err(fault) => {
+            eprintln!(rt; "line {number}: {fault}")?;
             Err(anyhow!("the record cannot be read"))
         }
-        Err(HexFault::NoMemory) => Err(anyhow!("the record does not fit the memory")),
     }
 }
 

@@ -57,8 +57,8 @@ pub struct Choices {
     pub gate_input_inverted: bool,
     pub gate: GateFunction,
     pub synchronisation: Synchronisation,
-    // Two fields of the record, each with a tag and a place of its own: an array would only need a
-    // third name for each.
+    // Two fields of the record, each with a tag and a place of its own; in an array each would only be
+    // named by an index.
     pub output1: Output,
     pub output2: Output,
 }

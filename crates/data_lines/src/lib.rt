@@ -1,0 +1,88 @@
+// The lines of a capture that bear data, each with its number.
+#![tactic(auto)]
+
+ghost use Rattle.std.specs.Prelude.{◌≡◌, ◌≢◌, Some, None, Ok, Err, IfSome, IfOk, IfErr, IsErr, if◌then◌else◌};
+ghost use Rattle.std.specs.IoError.{error_kind};
+ghost use Rattle.std.specs.String.{string_bytes};
+ghost use Rattle.winding.specs.Capture.{bears_data};
+ghost use Rattle.data_lines.specs.Lines.{line_number};
+
+use std::io;
+use std::io::{Eprint, ErrorKind};
+use winding::bears_data;
+
+// The number and the text of a line that bears data, for a chain over lines and their places. A line
+// that is no text is reported on standard error and passed over; any other failure to read is handed on.
+pub fn data_line<R: Eprint>(
+    rt: &R,
+    index: usize,
+    line: io::Result<String>,
+) -> Option<io::Result<(usize, String)>>
+    ensures text { IfOk line (λ text. result ≡ (if bears_data (string_bytes text) then Some (Ok (line_number index, text)) else None)) }
+    ensures no_text { IfErr line (λ e. error_kind e ≡ ErrorKind.InvalidData → IfSome result IsErr) }
+    ensures unread { IfErr line (λ e. error_kind e ≢ ErrorKind.InvalidData → result ≡ Some (Err e)) }
+{
+    let number = index.saturating_add(1);
+    match line {
+        Ok(line) if bears_data(line.as_str()) => Some(Ok((number, line))),
+        Ok(_) => None,
+        Err(e) if e.kind() == ErrorKind::InvalidData => {
+            eprintln!(rt; "line {number}: {e}").err().map(Err)
+        }
+        Err(e) => Some(Err(e)),
+    }
+}
+
+#[cfg(test)]
+mod tests {
+    use super::*;
+    use std::fmt::Display;
+    use std::io::{BufRead, Error};
+    use std::test::Fail;
+
+    // A standard error that takes nothing.
+    struct Closed;
+
+    impl Eprint for Closed {
+        fn eprint<D: Display + Drop>(&self, _value: D) -> io::Result<()> {
+            Err(Error::from(ErrorKind::BrokenPipe))
+        }
+
+        fn eprintln<D: Display + Drop>(&self, _value: D) -> io::Result<()> {
+            Err(Error::from(ErrorKind::BrokenPipe))
+        }
+    }
+
+    #[test]
+    fn lines_with_data(rt: HostRuntime) -> Result<(), Fail> {
+        let capture: &[u8] = b"# wheel\n1000 1\n\n\xff\n5 2";
+        let expected = [(2, "1000 1"), (5, "5 2")];
+        let mut found = 0usize;
+        for line in capture
+            .lines(rt.alloc())
+            .enumerate()
+            .filter_map(|(index, line)| data_line(&rt, index, line))
+        {
+            let (number, line) = line.ok().ok_or("a line is read")?;
+            assert_eq!(rt; Some(&(number, line.as_str())), expected.get(found));
+            found = found.saturating_add(1);
+        }
+        assert_eq!(rt; found, expected.len());
+        Ok(())
+    }
+
+    #[test]
+    fn failures(rt: HostRuntime) -> Result<(), Fail> {
+        let unread = data_line(&rt, 0, Err(Error::from(ErrorKind::TimedOut)));
+        match unread {
+            Some(Err(e)) => assert_eq!(rt; e.kind(), ErrorKind::TimedOut),
+            _ => return Err(Fail::new("the failure to read is handed on")),
+        }
+        let unreported = data_line(&Closed, 0, Err(Error::from(ErrorKind::InvalidData)));
+        match unreported {
+            Some(Err(e)) => assert_eq!(rt; e.kind(), ErrorKind::BrokenPipe),
+            _ => return Err(Fail::new("the failure to report is handed on")),
+        }
+        Ok(())
+    }
+}
