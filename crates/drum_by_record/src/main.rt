@@ -39,12 +39,12 @@ fn wind_all(rt: &HostRuntime) -> anyhow::Result<Drum> {
     {
         let (number, line) = line?;
         let line = line.as_str();
-        match drum.take() {
-            Some(begun) => drum = Some(wind_sample(rt, begun, number, line)?),
-            None => match record_digits(line) {
-                Some(digits) => append(rt, &mut record, number, digits)?,
-                None => drum = Some(set_up(rt, &record, number, line)?),
-            },
+        if let Some(begun) = &mut drum {
+            wind_sample(rt, begun, number, line)?;
+        } else if let Some(digits) = record_digits(line) {
+            append(rt, &mut record, number, digits)?;
+        } else {
+            drum = Some(set_up(rt, &record, number, line)?);
         }
     }
     match drum {
@@ -104,10 +104,9 @@ fn set_up(rt: &HostRuntime, record: &[u8], number: usize, line: &str) -> anyhow:
 }
 
 // Winds one line.
-fn wind_sample(rt: &HostRuntime, drum: Drum, number: usize, line: &str) -> anyhow::Result<Drum> {
-    let mut drum = drum;
+fn wind_sample(rt: &HostRuntime, drum: &mut Drum, number: usize, line: &str) -> anyhow::Result<()> {
     if let Err(fault) = wind_line(&mut drum.winding, line) {
         eprintln!(rt; "line {number}: {fault}")?;
     }
-    Ok(drum)
+    Ok(())
 }
