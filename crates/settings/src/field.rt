@@ -1,6 +1,6 @@
 // The fields of a parameter record.
-ghost use Rattle.std.specs.Prelude.{◌≡◌};
-ghost use Rattle.settings.specs.Fields.{tag_of, size_of, place_of};
+ghost use Rattle.std.specs.Prelude.{◌≡◌, []};
+ghost use Rattle.settings.specs.Fields.{tag_of, size_of, place_of, written};
 
 // In the order in which they stand in the record. The numbers are the tags.
 #[derive(Clone, Copy)]
@@ -41,6 +41,14 @@ impl Field {
             Field::Output1 | Field::Output2 => 7,
             _ => 1,
         }
+    }
+
+    // Its tag and length, as they stand before its value.
+    pub fn header(self) -> [u8; HEADER_SIZE]
+        ensures { result ≡ written self [] }
+    {
+        let [high, low] = (self.size() as u16).to_be_bytes();
+        [self.tag(), high, low]
     }
 
     // Where its first byte stands in a record.

@@ -53,9 +53,7 @@ fn put<V: Value>(bytes: &mut [u8; RECORD_SIZE], field: Field, value: V)
     ensures { bytes.new ≡ overlaid (place_of field) (written field (V.Value.writes value)) bytes.old }
 {
     let place = field.place();
-    let size = field.size();
-    let [high, low] = (size as u16).to_be_bytes();
-    bytes[place..place + HEADER_SIZE].copy_from_slice(&[field.tag(), high, low]);
     let value_place = place + HEADER_SIZE;
-    value.write(&mut bytes[value_place..value_place + size]);
+    bytes[place..value_place].copy_from_slice(&field.header());
+    value.write(&mut bytes[value_place..value_place + field.size()]);
 }

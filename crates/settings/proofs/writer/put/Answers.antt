@@ -1,9 +1,9 @@
-use Rattle.std.proofs.Common.{◌≡◌, ℕ, ◌+◌, ◌≤◌, List, [], ◌++◌, length, take, drop, arith, append_assoc, length-append, ap, sym, ◌∙◌}
+use Rattle.std.proofs.Common.{◌≡◌, ℕ, ◌+◌, ◌≤◌, List, ◌++◌, length, take, drop, arith, append_assoc, length-append, ap, sym, ◌∙◌}
 use Rattle.std.proofs.lemmas.Grind.{common_steps}
 use Rattle.std.proofs.lemmas.List.{drop-drop}
 use Rattle.std.proofs.lemmas.Slice.{take-put_mid, drop-put_mid}
 use borrow.Rule.Slice.PartMut.{put_mid}
-use Rattle.settings.specs.Fields.{written, overlaid}
+use Rattle.settings.specs.Fields.{overlaid}
 use Rattle.settings.proofs.writer.put.Goals as goal
 
 -- two parts that are written one behind the other are put as one
@@ -16,5 +16,5 @@ put_twice p q n m bytes header value head tail h t at sized last room =
 
 pub returns : goal.returns
 returns g c =
-    let head : c.copy_from_slice.new.self ≡ written c.args.field [] = grind (arith, common_steps) in
+    let head = c.copy_from_slice.ensures.after ∙ c.header.ensures in
     rw c.place-place.ensures (put_twice _ _ _ _ _ _ _ _ _ head c.write.ensures (omega arith) (omega arith) (omega arith) (grind (arith, common_steps)))
