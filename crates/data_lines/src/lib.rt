@@ -56,18 +56,16 @@ mod tests {
     #[test]
     fn lines_with_data(rt: HostRuntime) -> Result<(), Fail> {
         let capture: &[u8] = b"# wheel\n1000 1\n\n\xff\n5 2";
-        let expected = [(2, "1000 1"), (5, "5 2")];
-        let mut found = 0usize;
+        let mut expected = [(2, "1000 1"), (5, "5 2")].iter();
         for line in capture
             .lines(rt.alloc())
             .enumerate()
             .filter_map(|(index, line)| data_line(&rt, index, line))
         {
             let (number, line) = line.ok().ok_or("a line is read")?;
-            assert_eq!(rt; Some(&(number, line.as_str())), expected.get(found));
-            found = found.saturating_add(1);
+            assert_eq!(rt; Some(&(number, line.as_str())), expected.next());
         }
-        assert_eq!(rt; found, expected.len());
+        assert_eq!(rt; expected.next(), None);
         Ok(())
     }
 

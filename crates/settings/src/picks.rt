@@ -10,7 +10,6 @@ use encoder::{PickedEvaluation, Staged};
 
 impl Parameters {
     // The counter of these parameters, new: it reads its load.
-    #[tactic(auto, using(crate::proofs::RoundTrips::has_counter))]
     pub fn counter(&self) -> PickedCounter
         ensures { picked_means result ≡ picked_row self.now.choices }
     {
