@@ -1,6 +1,6 @@
 use super::*;
 use counter::{Counter, MainDirection, Mode};
-use encoder::{Answer, Evaluation, Pair, PickedEvaluation};
+use encoder::{Evaluation, Pair, PickedEvaluation, Pulse};
 use refusal::{Layer, Refusal};
 use std::test::Fail;
 
@@ -424,12 +424,12 @@ fn what_is_picked(rt: HostRuntime) -> Result<(), Fail> {
     let low = Pair { a: false, b: false };
     let high = Pair { a: true, b: false };
     let inverted = parameters.evaluation();
-    assert_eq!(rt; inverted.evaluate(low, high), Answer::Down);
+    assert_eq!(rt; inverted.evaluate(low, high), Some(Pulse::Down));
     let mut direct = choices();
     direct.b_inverted = false;
     let Ok(direct) = Parameters::new(direct) else {
         return Err(Fail::new("the choices are refused"));
     };
-    assert_eq!(rt; direct.evaluation().evaluate(low, high), Answer::Up);
+    assert_eq!(rt; direct.evaluation().evaluate(low, high), Some(Pulse::Up));
     Ok(())
 }
