@@ -36,6 +36,8 @@ impl<T: Drop> From<AllocFailed<T>> for HexFault {
     }
 }
 
+// By ranges of bytes: the library's `to_digit` goes from a char to a u32, and both would have to be
+// converted here.
 fn digit(c: u8) -> Option<u8>
     ensures { result ≡ digit_value c }
 {
