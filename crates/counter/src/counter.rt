@@ -6,8 +6,9 @@ ghost use Rattle.counter.specs.Counting.{Sound, up, up_crossing, down, down_cros
 use crate::meaning::{Crossing, Meaning, OutsideLimits};
 
 // Whoever brings a counter shows that it means what it tells, and that its changes follow the
-// meaning; everything above is proved from that alone. By a rule of the project each kind is a type
-// of its own that changes its reading and load in place, so `put` stands once in each.
+// meaning; everything above is proved from that alone. By a rule of the project (docs/DECISIONS.md)
+// each kind is a type of its own that changes its reading and load in place, so `put`, and `set_load`
+// of the two kinds without an end value, stand once in each.
 pub trait Counter {
     ghost means: { Self → Meaning };
 

@@ -18,7 +18,8 @@ pub struct Downward {
 }
 
 impl Downward {
-    // Stops or goes on at a crossing. The end value must be at least 2, and the load within the limits.
+    // `stops` says whether a crossing stops the count. The end value must be at least 2, and the load
+    // within the limits.
     pub fn new(end: i32, load: i32, stops: bool) -> Option<Downward>
         ensures { Makes (λ c. downward c.stops c.end c.reading c.load) result (downward_fits end load) (downward stops end load load) }
     {

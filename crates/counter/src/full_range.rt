@@ -15,7 +15,7 @@ pub struct FullRange {
 }
 
 impl FullRange {
-    // Stops or goes on at a crossing.
+    // `stops` says whether a crossing stops the count: endless does not, once does.
     pub fn new(load: i32, stops: bool) -> FullRange
         ensures { full_range result.stops result.reading result.load ≡ full_range stops load load }
     {

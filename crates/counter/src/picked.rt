@@ -10,8 +10,8 @@ use crate::mode::{MainDirection, Mode};
 use crate::periodic::Periodic;
 use crate::upward::Upward;
 
-// By a rule of the project it is an enum with the data of one kind in each case, and each function is
-// a match.
+// By a rule of the project (docs/DECISIONS.md) it is an enum with the data of one kind in each case,
+// and each function is a match.
 #[derive(Clone, Copy)]
 pub enum PickedCounter {
     FullRange(FullRange),

@@ -9,7 +9,8 @@ use crate::picked::PickedCounter;
 use crate::upward::Upward;
 use std::test::Fail;
 
-// The pulses, one after the other: the reading after the last, and its crossing.
+// The pulses, one after the other: the reading after the last, and its crossing. One function for ups
+// and downs would have to be told the method, and the tests would read no plainer.
 fn ups<C: Counter>(counter: &mut C, pulses: u8) -> (i32, Option<Crossing>) {
     let mut crossing = None;
     for _ in 0..pulses {
@@ -70,9 +71,7 @@ fn periodic_lands_on_its_load_from_both_ends(rt: HostRuntime) {
 
 #[test]
 fn upward_from_load_three_to_end_ten(rt: HostRuntime) -> Result<(), Fail> {
-    let Some(mut counter) = Upward::new(10, 3, false) else {
-        return Err(Fail::new("refused"));
-    };
+    let mut counter = Upward::new(10, 3, false).ok_or("refused")?;
     assert_eq!(rt; ups(&mut counter, 6), (9, None));
     assert_eq!(rt; ups(&mut counter, 1), (3, Some(Crossing::Overflow)));
     assert_eq!(rt; ups(&mut counter, 2), (5, None));
@@ -87,9 +86,7 @@ fn upward_from_load_three_to_end_ten(rt: HostRuntime) -> Result<(), Fail> {
 
 #[test]
 fn downward_from_load_five_to_one(rt: HostRuntime) -> Result<(), Fail> {
-    let Some(mut counter) = Downward::new(8, 5, true) else {
-        return Err(Fail::new("refused"));
-    };
+    let mut counter = Downward::new(8, 5, true).ok_or("refused")?;
     assert!(rt; counter.meaning().stops);
     assert_eq!(rt; downs(&mut counter, 4), (1, None));
     assert_eq!(rt; downs(&mut counter, 1), (5, Some(Crossing::Underflow)));
@@ -140,13 +137,11 @@ fn picked_by_its_row(rt: HostRuntime) {
 
 #[test]
 fn picked_counts_as_its_kind(rt: HostRuntime) -> Result<(), Fail> {
-    let Some(mut up) = PickedCounter::new(Mode::Periodic, MainDirection::Up, 10, 3) else {
-        return Err(Fail::new("refused"));
-    };
+    let mut up = PickedCounter::new(Mode::Periodic, MainDirection::Up, 10, 3).ok_or("refused")?;
     assert_eq!(rt; ups(&mut up, 9), (5, None));
-    let Some(mut free) = PickedCounter::new(Mode::Periodic, MainDirection::Neither, 2, 4) else {
-        return Err(Fail::new("refused"));
-    };
+    let mut free = PickedCounter::new(Mode::Periodic, MainDirection::Neither, 2, 4).ok_or(
+        "refused",
+    )?;
     assert_eq!(rt; ups(&mut free, 3), (7, None));
     assert_eq!(rt; free.set_load(-5), Ok(()));
     free.put();

@@ -18,7 +18,8 @@ pub struct Upward {
 }
 
 impl Upward {
-    // Stops or goes on at a crossing. The end value must be at least 2, and the load within the limits.
+    // `stops` says whether a crossing stops the count. The end value must be at least 2, and the load
+    // within the limits.
     pub fn new(end: i32, load: i32, stops: bool) -> Option<Upward>
         ensures { Makes (λ c. upward c.stops c.end c.reading c.load) result (upward_fits end load) (upward stops end load load) }
     {

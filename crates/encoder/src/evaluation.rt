@@ -29,7 +29,7 @@ pub trait Rotary: Evaluation {
     ghost height: { Self → ℤ → ℤ };
 
     // Does nothing; its promise is the law between neighbouring places, which generic code gets by a
-    // call. A rule of the project wants it a function.
+    // call. A rule of the project (docs/DECISIONS.md) wants it a function.
     fn step_law(&self)
         ensures { StepLaw (Self.Evaluation.answers self.now) (height self.now) };
 }

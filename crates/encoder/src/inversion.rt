@@ -33,7 +33,8 @@ impl<E: Rotary> Rotary for Inverted<E> {
     }
 }
 
-// Any evaluation with or without the inversion stage before it.
+// Any evaluation with or without the inversion stage before it. A match for each function: a boxed
+// value in place of the two cases would only add memory.
 #[derive(Clone, Copy)]
 pub enum Staged<E> {
     Direct(E),

@@ -10,6 +10,7 @@ use crate::quadruple::Quadruple;
 use crate::single::Single;
 
 // The numbers are the codes by which settings name them.
+// A match for each function: the cases are four, and known, so a boxed value would only add memory.
 #[derive(Clone, Copy, PartialEq, Eq, Debug)]
 pub enum PickedEvaluation {
     PulseDirection = 0,

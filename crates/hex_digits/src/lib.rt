@@ -9,6 +9,7 @@ use std::alloc::{AllocFailed, Global};
 use std::error::Error;
 use std::fmt;
 
+// Why digits are not read.
 #[derive(Clone, Copy, PartialEq, Eq, Debug)]
 pub enum HexFault {
     NotHex,
@@ -36,7 +37,7 @@ impl<T: Drop> From<AllocFailed<T>> for HexFault {
     }
 }
 
-// By ranges of bytes: the library's `to_digit` goes from a char to a u32, and both would have to be
+// The value of a digit. By ranges of bytes: the library's `to_digit` goes from a char to a u32, and both would have to be
 // converted here.
 fn digit(c: u8) -> Option<u8>
     ensures { result ≡ digit_value c }
@@ -49,6 +50,7 @@ fn digit(c: u8) -> Option<u8>
     }
 }
 
+// The byte of two digits.
 fn byte(high: u8, low: u8) -> Option<u8>
     ensures { result ≡ byte_value (digit_value high) (digit_value low) }
 {
@@ -62,6 +64,8 @@ pub fn from_hex(heap: Global, digits: &[u8]) -> Result<Vec<u8>, HexFault>
 {
     let mut bytes = Vec::new(heap);
     let mut rest = digits;
+    // Pair by pair, since an odd digit may be left over. With `chunks_exact` or `as_chunks` the proof
+    // was tried and did not close.
     while let [high, low, after @ ..] = rest {
         bytes.push(byte(*high, *low).ok_or(HexFault::NotHex)?)?;
         rest = after;
@@ -86,23 +90,17 @@ mod tests {
             (b"ffFF90", b"\xff\xff\x90"),
         ];
         for (digits, bytes) in texts {
-            match from_hex(rt.alloc(), digits) {
-                Ok(read) => assert_eq!(rt; read.as_slice(), bytes),
-                Err(_) => return Err(Fail::new("these are digits")),
-            }
+            let read = from_hex(rt.alloc(), digits)?;
+            assert_eq!(rt; read.as_slice(), bytes);
         }
         Ok(())
     }
 
     #[test]
-    fn no_pairs_of_digits(rt: HostRuntime) -> Result<(), Fail> {
+    fn no_pairs_of_digits(rt: HostRuntime) {
         let texts: [&[u8]; 8] = [b"0", b"000", b"0g", b"/0", b":0", b"@0", b"`0", b"G0"];
         for digits in texts {
-            match from_hex(rt.alloc(), digits) {
-                Ok(_) => return Err(Fail::new("these are no digits")),
-                Err(fault) => assert_eq!(rt; fault, HexFault::NotHex),
-            }
+            assert_eq!(rt; from_hex(rt.alloc(), digits).err(), Some(HexFault::NotHex));
         }
-        Ok(())
     }
 }

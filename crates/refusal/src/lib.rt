@@ -16,6 +16,7 @@ pub enum Layer {
 }
 
 impl Layer {
+    // Stays beside how a layer prints, since it cannot fail.
     pub fn name(self) -> &'static str
         ensures { result.now ≡ layer_name self }
     {
@@ -58,7 +59,7 @@ pub enum Reason {
 }
 
 impl Reason {
-    // A caller asks for the number, so this is no conversion to u8.
+    // Public by this name, and a conversion to u8 would not say what its number is.
     pub fn number(self) -> u8
         ensures { result ≡ number_of self }
     {

@@ -12,6 +12,7 @@ pub trait Coded: Copy + 'static {
 
     ghost all: { List Self };
 
+    // Each impl says `self as u8` for itself, since the cast wants the enum's own type.
     fn code(self) -> u8
         ensures { result ≡ code self };
 

@@ -1,6 +1,9 @@
 // The fields of a parameter record.
+ghost use Rattle.refusal.specs.Refusals.{refusal};
 ghost use Rattle.std.specs.Prelude.{◌≡◌, []};
 ghost use Rattle.settings.specs.Fields.{tag_of, size_of, place_of, written};
+
+use refusal::{Reason, Refusal};
 
 // In the order in which they stand in the record. The numbers are the tags.
 #[derive(Clone, Copy)]
@@ -19,20 +22,20 @@ pub enum Field {
     Output2 = 12,
 }
 
-// The bytes of a whole record, and those of a field's tag and length.
+// How many bytes a whole record has, and a field's tag and length.
 pub const RECORD_SIZE: usize = 66;
 
 pub const HEADER_SIZE: usize = 3;
 
 impl Field {
-    // A caller asks for the tag, so this is no conversion to u8.
+    // A field has three numbers, so none of them is its conversion to a number.
     pub fn tag(self) -> u8
         ensures { result ≡ tag_of self }
     {
         self as u8
     }
 
-    // The bytes of its value.
+    // How many bytes its value has.
     pub fn size(self) -> usize
         ensures { result ≡ size_of self }
     {
@@ -69,5 +72,12 @@ impl Field {
             Field::Output1 => 46,
             Field::Output2 => 56,
         }
+    }
+
+    // The refusal of a record for this field.
+    pub fn refusal(self, reason: Reason) -> Refusal
+        ensures { result ≡ refusal reason (place_of self) }
+    {
+        Refusal::new(reason, self.place())
     }
 }

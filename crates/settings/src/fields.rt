@@ -21,22 +21,22 @@ impl<'a> Fields<'a> {
         Fields { rest: record }
     }
 
-    // Cuts a field off, and answers the bytes of its value. By a rule of the project it is taken apart
-    // with a let-else for each refusal, which carries the field's place.
+    // Cuts a field off, and answers the bytes of its value. By a rule of the project
+    // (docs/DECISIONS.md) a let-else takes it apart where a part may be missing.
     fn cut(&mut self, field: Field) -> Result<&'a [u8], Refusal>
         ensures { Takes (λ v. v.now) (cut field self.old.rest.now) self.new.rest.now result }
     {
         let [tag, high, low, rest @ ..] = self.rest else {
-            return Err(Refusal::new(Reason::FieldMissing, field.place()));
+            return Err(field.refusal(Reason::FieldMissing));
         };
         if *tag != field.tag() {
-            return Err(Refusal::new(Reason::UnexpectedTag, field.place()));
+            return Err(field.refusal(Reason::UnexpectedTag));
         }
         if usize::from(u16::from_be_bytes([*high, *low])) != field.size() {
-            return Err(Refusal::new(Reason::WrongLength, field.place()));
+            return Err(field.refusal(Reason::WrongLength));
         }
         let Some((value, rest)) = rest.split_at_checked(field.size()) else {
-            return Err(Refusal::new(Reason::ValueCut, field.place()));
+            return Err(field.refusal(Reason::ValueCut));
         };
         self.rest = rest;
         Ok(value)
@@ -47,7 +47,7 @@ impl<'a> Fields<'a> {
         ensures { Takes (λ v. v) (taken field V.Value.reads self.old.rest.now) self.new.rest.now result }
     {
         let value = self.cut(field)?;
-        V::from_bytes(value).ok_or(Refusal::new(Reason::ValueOutOfRange, field.place()))
+        V::from_bytes(value).ok_or(field.refusal(Reason::ValueOutOfRange))
     }
 
     // The choices that were read, if nothing follows the last field.

@@ -6,7 +6,8 @@ ghost use Rattle.settings.specs.Record.{record_of, verdict, Gives, Holds};
 use crate::choices::Choices;
 use refusal::{Reason, Refusal};
 
-// No value of this type holds a value out of its range or a conflict, so nobody has to ask again.
+// No value of this type holds a value out of its range or a conflict, so nobody has to ask again. No
+// model: it would hide `kept`, which proofs read.
 #[derive(Clone, Copy)]
 pub struct Parameters {
     choices: Choices,
@@ -23,10 +24,10 @@ impl Parameters {
         ensures made { Holds (λ p. p.choices) result choices }
     {
         if let Some(field) = choices.out_of_range() {
-            return Err(Refusal::new(Reason::ValueOutOfRange, field.place()));
+            return Err(field.refusal(Reason::ValueOutOfRange));
         }
         if let Some(field) = choices.conflict() {
-            return Err(Refusal::new(Reason::FieldsConflict, field.place()));
+            return Err(field.refusal(Reason::FieldsConflict));
         }
         Ok(Parameters { choices })
     }

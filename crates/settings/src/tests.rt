@@ -47,10 +47,7 @@ fn told(refusal: Refusal) -> (u8, usize) {
 
 // What the reader answers; nothing where the record is accepted.
 fn verdict(record: &[u8]) -> Option<(u8, usize)> {
-    match Parameters::read(record) {
-        Ok(_) => None,
-        Err(refusal) => Some(told(refusal)),
-    }
+    Parameters::read(record).err().map(told)
 }
 
 // A record with one byte changed.
@@ -82,9 +79,7 @@ fn verdict_on_longer(record: [u8; 66], rt: &HostRuntime) -> Result<Option<(u8, u
 #[test]
 fn every_truncation(rt: HostRuntime) -> Result<(), Fail> {
     for length in 0..66usize {
-        let Some(cut) = PLAIN.get(0..length) else {
-            return Err(Fail::new("the record has 66 bytes"));
-        };
+        let cut = PLAIN.get(0..length).ok_or("the record has 66 bytes")?;
         let mut expected = None;
         for (place, value, next) in FIELDS {
             if place <= length && length < value {
@@ -340,16 +335,12 @@ const WRITTEN: [u8; 66] = *b"\
 
 #[test]
 fn written_from_choices_and_read_again(rt: HostRuntime) -> Result<(), Fail> {
-    let Ok(made) = Parameters::new(choices()) else {
-        return Err(Fail::new("the choices are refused"));
-    };
+    let made = Parameters::new(choices())?;
     let mut buffer = [0xa5u8; 70];
     made.write(&mut buffer)?;
     assert_eq!(rt; &buffer[0..66], &WRITTEN[0..66]);
     assert_eq!(rt; &buffer[66..70], &[0xa5u8; 4][0..4]);
-    let Ok(read) = Parameters::read(&WRITTEN) else {
-        return Err(Fail::new("the record is refused"));
-    };
+    let read = Parameters::read(&WRITTEN)?;
     let mut again = [0u8; 66];
     read.write(&mut again)?;
     assert_eq!(rt; &again[0..66], &WRITTEN[0..66]);
@@ -358,29 +349,16 @@ fn written_from_choices_and_read_again(rt: HostRuntime) -> Result<(), Fail> {
 
 #[test]
 fn a_short_buffer_stays_as_it_was(rt: HostRuntime) -> Result<(), Fail> {
-    let Ok(made) = Parameters::new(choices()) else {
-        return Err(Fail::new("the choices are refused"));
-    };
+    let made = Parameters::new(choices())?;
     let mut buffer = [0xa5u8; 65];
-    match made.write(&mut buffer) {
-        Ok(()) => return Err(Fail::new("65 bytes are too few")),
-        Err(refusal) => assert_eq!(rt; told(refusal), (8, 0)),
-    }
+    assert_eq!(rt; made.write(&mut buffer).err().map(told), Some((8, 0)));
     assert_eq!(rt; &buffer[0..65], &[0xa5u8; 65][0..65]);
-    match made.write(&mut []) {
-        Ok(()) => Err(Fail::new("no bytes are too few")),
-        Err(refusal) => {
-            assert_eq!(rt; told(refusal), (8, 0));
-            Ok(())
-        },
-    }
+    assert_eq!(rt; made.write(&mut []).err().map(told), Some((8, 0)));
+    Ok(())
 }
 
 fn made(choices: Choices) -> Option<(u8, usize)> {
-    match Parameters::new(choices) {
-        Ok(_) => None,
-        Err(refusal) => Some(told(refusal)),
-    }
+    Parameters::new(choices).err().map(told)
 }
 
 #[test]
@@ -410,9 +388,7 @@ fn choices_are_refused_as_their_record(rt: HostRuntime) {
 
 #[test]
 fn what_is_picked(rt: HostRuntime) -> Result<(), Fail> {
-    let Ok(parameters) = Parameters::read(&WRITTEN) else {
-        return Err(Fail::new("the record is refused"));
-    };
+    let parameters = Parameters::read(&WRITTEN)?;
     assert_eq!(rt; parameters.choices().load, 3);
     assert_eq!(rt; parameters.choices().output2.comparison, 9);
     let meaning = parameters.counter().meaning();
@@ -427,9 +403,7 @@ fn what_is_picked(rt: HostRuntime) -> Result<(), Fail> {
     assert_eq!(rt; inverted.evaluate(low, high), Some(Pulse::Down));
     let mut direct = choices();
     direct.b_inverted = false;
-    let Ok(direct) = Parameters::new(direct) else {
-        return Err(Fail::new("the choices are refused"));
-    };
+    let direct = Parameters::new(direct)?;
     assert_eq!(rt; direct.evaluation().evaluate(low, high), Some(Pulse::Up));
     Ok(())
 }

@@ -20,10 +20,10 @@ impl fmt::Display for Thousandths {
     #[tactic(auto, using(crate::proofs::Digits::three_digits))]
     fn fmt<W: fmt::Write>(&self, f: &mut fmt::Formatter<W>) -> fmt::Result {
         let sign = if self.0 < 0 { "-" } else { "" };
-        let size = self.0.unsigned_abs();
-        let whole = size / 1000;
-        let part = size % 1000;
-        write!(f, "{sign}{whole}.{part:03}")
+        let magnitude = self.0.unsigned_abs();
+        let whole = magnitude / 1000;
+        let thousandths = magnitude % 1000;
+        write!(f, "{sign}{whole}.{thousandths:03}")
     }
 }
 

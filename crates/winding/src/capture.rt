@@ -11,7 +11,7 @@ use counter::Counter;
 use encoder::{Evaluation, Levels, NoLevelByte};
 use std::error::Error;
 use std::fmt;
-use std::num::{ParseIntError, TryFromIntError};
+use std::num::ParseIntError;
 
 // What is wrong with a line of a capture.
 #[derive(Clone, Copy, PartialEq, Eq, Debug)]
@@ -36,14 +36,6 @@ impl From<ParseIntError> for LineFault {
 
     fn from(_error: ParseIntError) -> LineFault {
         LineFault::NotTwoNumbers
-    }
-}
-
-impl From<TryFromIntError> for LineFault {
-    ghost from_gives = { λ _ r. r ≡ LevelsOutOfRange };
-
-    fn from(_error: TryFromIntError) -> LineFault {
-        LineFault::LevelsOutOfRange
     }
 }
 
@@ -142,10 +134,10 @@ impl Sample {
         if time > 1_000_000 {
             return Err(LineFault::TimeTooLong);
         }
-        let levels = Levels::try_from(u8::try_from(byte)?)?;
+        let byte = u8::try_from(byte).map_err(|_| LineFault::LevelsOutOfRange)?;
         Ok(Sample {
             elapsed: time,
-            levels,
+            levels: Levels::try_from(byte)?,
         })
     }
 }

@@ -1,7 +1,8 @@
 // What a winding sums up.
 ghost use Rattle.std.specs.Prelude.{◌+◌, ◌≤◌};
 
-// `doubles` are the samples at which both lines changed, and `elapsed` is in microseconds.
+// `doubles` are the samples at which both lines changed, and `elapsed` is in microseconds. Contracts
+// read it by `sums_of`: a model would hide the fields, which are public.
 #[derive(Clone, Copy)]
 pub struct Tally {
     pub samples: u64,

@@ -17,9 +17,7 @@ fn lengths_round_down(rt: HostRuntime) -> Result<(), Fail> {
         ("4294967295 1", -2147483648, -2305843008676824),
     ];
     for (line, reading, millimetres) in lengths {
-        let Ok(wheel) = read_wheel(line) else {
-            return Err(Fail::new("no wheel"));
-        };
+        let wheel = read_wheel(line)?;
         assert_eq!(rt;
             wheel.length(reading, PickedEvaluation::Quadruple),
             Thousandths(millimetres)
@@ -47,9 +45,7 @@ fn lengths_by_evaluation(rt: HostRuntime) -> Result<(), Fail> {
         ),
     ];
     for (line, reading, evaluation, millimetres) in lengths {
-        let Ok(wheel) = read_wheel(line) else {
-            return Err(Fail::new("no wheel"));
-        };
+        let wheel = read_wheel(line)?;
         assert_eq!(rt; wheel.length(reading, evaluation), Thousandths(millimetres));
     }
     Ok(())
@@ -98,9 +94,7 @@ fn bad_lines_are_not_wound(rt: HostRuntime) {
 
 #[test]
 fn lines_of_the_record(rt: HostRuntime) -> Result<(), Fail> {
-    let Some(digits) = record_digits("record 0102ff") else {
-        return Err(Fail::new("it begins with the word"));
-    };
+    let digits = record_digits("record 0102ff").ok_or("it begins with the word")?;
     assert_eq!(rt; digits, b"0102ff".as_slice());
     for line in ["0102ff", "record", "records 01", "Record 01", " record 01"] {
         assert!(rt; record_digits(line).is_none());

@@ -15,6 +15,7 @@ pub struct Sample {
 }
 
 impl Tally {
+    // By hand: a Default is not derived where a struct has ghost fields.
     pub fn new() -> Tally
         ensures { sums_of result ≡ no_sums }
     {
@@ -47,7 +48,8 @@ impl Tally {
     }
 }
 
-// Any evaluation and any counter, the pair of the last sample, and the tally so far.
+// Any evaluation and any counter, the pair of the last sample, and the tally so far. Contracts read it
+// by `state_of`: a model would hide the fields, which are public.
 #[derive(Drop)]
 pub struct Winding<E, C> {
     pub evaluation: E,
