@@ -5,26 +5,34 @@ ghost use Rattle.std.specs.Prelude.{◌≡◌, ◌≢◌, Some, None, Ok, Err, I
 ghost use Rattle.std.specs.IoError.{error_kind};
 ghost use Rattle.std.specs.String.{string_bytes};
 ghost use Rattle.winding.specs.Capture.{bears_data};
-ghost use Rattle.data_lines.specs.Lines.{line_number};
+ghost use Rattle.data_lines.specs.Lines.{data_line};
 
+use std::fmt::Display;
 use std::io;
 use std::io::{Eprint, ErrorKind};
 use winding::bears_data;
 
-// The number and the text of a line that bears data, for a chain over lines and their places. A line
-// that is no text is reported on standard error and passed over; any other failure to read is handed on.
+// A line that bears data, with its number.
+#[derive(Drop)]
+pub struct DataLine {
+    pub number: usize,
+    pub text: String,
+}
+
+// The line that was read, if it bears data, for `filter_map` over enumerated lines. A line that is no
+// text is reported on standard error and passed over; any other failure to read is handed on.
 pub fn data_line<R: Eprint>(
     rt: &R,
     index: usize,
     line: io::Result<String>,
-) -> Option<io::Result<(usize, String)>>
-    ensures text { IfOk line (λ text. result ≡ (if bears_data (string_bytes text) then Some (Ok (line_number index, text)) else None)) }
+) -> Option<io::Result<DataLine>>
+    ensures text { IfOk line (λ text. result ≡ (if bears_data (string_bytes text) then Some (Ok (data_line index text)) else None)) }
     ensures no_text { IfErr line (λ e. error_kind e ≡ ErrorKind.InvalidData → IfSome result IsErr) }
     ensures unread { IfErr line (λ e. error_kind e ≢ ErrorKind.InvalidData → result ≡ Some (Err e)) }
 {
     let number = index.saturating_add(1);
     match line {
-        Ok(line) if bears_data(line.as_str()) => Some(Ok((number, line))),
+        Ok(text) if bears_data(text.as_str()) => Some(Ok(DataLine { number, text })),
         Ok(_) => None,
         Err(e) if e.kind() == ErrorKind::InvalidData => {
             eprintln!(rt; "line {number}: {e}").err().map(Err)
@@ -33,10 +41,31 @@ pub fn data_line<R: Eprint>(
     }
 }
 
+impl DataLine {
+    // What was made of the line. There is none where the line is at fault, and the fault is reported
+    // on standard error.
+    pub fn reported<R: Eprint, T: Drop, F: Display + Drop>(
+        &self,
+        rt: &R,
+        made: Result<T, F>,
+    ) -> io::Result<Option<T>>
+        ensures value { IfOk made (λ value. result ≡ Ok (Some value)) }
+        ensures fault { IfErr made (λ _. IfOk result (λ value. value ≡ None)) }
+    {
+        let number = self.number;
+        match made {
+            Ok(value) => Ok(Some(value)),
+            Err(fault) => {
+                eprintln!(rt; "line {number}: {fault}")?;
+                Ok(None)
+            }
+        }
+    }
+}
+
 #[cfg(test)]
 mod tests {
     use super::*;
-    use std::fmt::Display;
     use std::io::{BufRead, Error};
     use std::test::Fail;
 
@@ -62,8 +91,8 @@ mod tests {
             .enumerate()
             .filter_map(|(index, line)| data_line(&rt, index, line))
         {
-            let (number, line) = line.ok().ok_or("a line is read")?;
-            assert_eq!(rt; Some(&(number, line.as_str())), expected.next());
+            let line = line?;
+            assert_eq!(rt; Some(&(line.number, line.text.as_str())), expected.next());
         }
         assert_eq!(rt; expected.next(), None);
         Ok(())

@@ -1,7 +1,7 @@
 // Winds a drum of cable from a capture of the encoder's lines, and prints the bill.
 #![tactic(auto)]
 
-use anyhow::{Context, anyhow};
+use anyhow::Context;
 use counter::{Counter, FullRange};
 use data_lines::data_line;
 use encoder::{Evaluation, PickedEvaluation, Quadruple};
@@ -13,7 +13,8 @@ fn main(rt: HostRuntime) -> anyhow::Result<()> {
 }
 
 fn run(rt: &HostRuntime) -> anyhow::Result<()> {
-    let mut winding = Winding::new(Quadruple, FullRange::new(0, false));
+    let endless = FullRange::new(0, false);
+    let mut winding = Winding::new(Quadruple, endless);
     let wheel = wind_all(rt, &mut winding)?;
     let bill = winding.bill(&wheel, PickedEvaluation::Quadruple);
     println!(rt; "{bill}")?;
@@ -29,19 +30,13 @@ fn wind_all<E: Evaluation, C: Counter>(
         .lines(rt.alloc())
         .enumerate()
         .filter_map(|(index, line)| data_line(rt, index, line));
-    let (number, line) = lines.next().context("the capture is empty")??;
-    let wheel = match read_wheel(line.as_str()) {
-        Ok(wheel) => wheel,
-        Err(fault) => {
-            eprintln!(rt; "line {number}: {fault}")?;
-            return Err(anyhow!("the capture does not begin with a wheel"));
-        }
-    };
+    let head = lines.next().context("the capture is empty")??;
+    let wheel = head
+        .reported(rt, read_wheel(head.text.as_str()))?
+        .context("the capture does not begin with a wheel")?;
     for line in lines {
-        let (number, line) = line?;
-        if let Err(fault) = wind_line(winding, line.as_str()) {
-            eprintln!(rt; "line {number}: {fault}")?;
-        }
+        let line = line?;
+        line.reported(rt, wind_line(winding, line.text.as_str()))?;
     }
     Ok(wheel)
 }

@@ -1,9 +1,9 @@
-// Winds a drum of cable from a capture of the encoder's lines, and prints the bill.
+// Winds a drum of cable from a capture that begins with a parameter record, and prints the bill.
 #![tactic(auto)]
 
-use anyhow::anyhow;
+use anyhow::{Context, anyhow};
 use counter::PickedCounter;
-use data_lines::data_line;
+use data_lines::{DataLine, data_line};
 use encoder::{PickedEvaluation, Staged};
 use hex_digits::{HexFault, from_hex};
 use settings::Parameters;
@@ -28,23 +28,23 @@ fn run(rt: &HostRuntime) -> anyhow::Result<()> {
     Ok(())
 }
 
-// Winds the capture on standard input. Bad samples are reported and passed over.
+// Winds the capture on standard input. Bad samples are reported and passed over. One loop for the head
+// and the samples: with a second loop over the lines that are left, the proof was tried and did not close.
 fn wind_all(rt: &HostRuntime) -> anyhow::Result<Drum> {
     let mut record = Vec::new(rt.alloc());
-    let mut drum = None;
+    let mut drum: Option<Drum> = None;
     let lines = BufReader::new(rt.alloc(), rt.stdin())?.lines(rt.alloc());
     for line in lines
         .enumerate()
         .filter_map(|(index, line)| data_line(rt, index, line))
     {
-        let (number, line) = line?;
-        let line = line.as_str();
+        let line = line?;
         if let Some(begun) = &mut drum {
-            wind_sample(rt, begun, number, line)?;
-        } else if let Some(digits) = record_digits(line) {
-            append(rt, &mut record, number, digits)?;
+            line.reported(rt, wind_line(&mut begun.winding, line.text.as_str()))?;
+        } else if let Some(digits) = record_digits(line.text.as_str()) {
+            append(rt, &mut record, &line, digits)?;
         } else {
-            drum = Some(set_up(rt, &record, number, line)?);
+            drum = Some(set_up(rt, &record, &line)?);
         }
     }
     match drum {
@@ -60,20 +60,18 @@ fn wind_all(rt: &HostRuntime) -> anyhow::Result<Drum> {
 fn append(
     rt: &HostRuntime,
     record: &mut Vec<u8>,
-    number: usize,
+    line: &DataLine,
     digits: &[u8],
 ) -> anyhow::Result<()> {
-    match from_hex(rt.alloc(), digits) {
-        Ok(bytes) => {
-            record.extend_from_slice(&bytes)?;
-            Ok(())
-        }
-        Err(HexFault::NoMemory) => Err(anyhow!("the record does not fit the memory")),
-        Err(fault) => {
-            eprintln!(rt; "line {number}: {fault}")?;
-            Err(anyhow!("the record cannot be read"))
-        }
+    let read = from_hex(rt.alloc(), digits);
+    if let Err(HexFault::NoMemory) = &read {
+        return Err(anyhow!("the record does not fit the memory"));
     }
+    let bytes = line
+        .reported(rt, read)?
+        .context("the record cannot be read")?;
+    record.extend_from_slice(&bytes)?;
+    Ok(())
 }
 
 // The parameters of the record; where it is refused, the refusal is printed.
@@ -89,24 +87,13 @@ fn read_record(rt: &HostRuntime, record: &[u8]) -> anyhow::Result<Parameters> {
 }
 
 // Sets up the winding by the record and by the wheel's line behind it.
-fn set_up(rt: &HostRuntime, record: &[u8], number: usize, line: &str) -> anyhow::Result<Drum> {
+fn set_up(rt: &HostRuntime, record: &[u8], line: &DataLine) -> anyhow::Result<Drum> {
     let parameters = read_record(rt, record)?;
-    match read_wheel(line) {
-        Ok(wheel) => Ok(Drum {
-            wheel,
-            winding: Winding::new(parameters.evaluation(), parameters.counter()),
-        }),
-        Err(fault) => {
-            eprintln!(rt; "line {number}: {fault}")?;
-            Err(anyhow!("the capture has no wheel behind its record"))
-        }
-    }
-}
-
-// Winds one line.
-fn wind_sample(rt: &HostRuntime, drum: &mut Drum, number: usize, line: &str) -> anyhow::Result<()> {
-    if let Err(fault) = wind_line(&mut drum.winding, line) {
-        eprintln!(rt; "line {number}: {fault}")?;
-    }
-    Ok(())
+    let wheel = line
+        .reported(rt, read_wheel(line.text.as_str()))?
+        .context("the capture has no wheel behind its record")?;
+    Ok(Drum {
+        wheel,
+        winding: Winding::new(parameters.evaluation(), parameters.counter()),
+    })
 }
