@@ -22,7 +22,8 @@ pub enum PickedCounter {
 
 impl PickedCounter {
     // A new counter, which reads its load. There is none where an endless counter is given a main
-    // direction, where the end value is below 2, or where the load lies outside the limits.
+    // direction, where the end value is below 2, or where the load lies outside the limits. The four
+    // stand in no struct of their own: only this function takes them.
     pub fn new(mode: Mode, direction: MainDirection, end: i32, load: i32) -> Option<PickedCounter>
         ensures { Makes picked_means result (row_fits mode direction end load) (row mode direction end load) }
     {
