@@ -26,5 +26,6 @@ impl Evaluation for Double {
 impl Rotary for Double {
     ghost height = { λ _. double_height };
 
+    #[tactic(auto, using(crate::proofs::Steps::double_steps))]
     fn step_law(&self) {}
 }

@@ -26,5 +26,6 @@ impl Evaluation for Single {
 impl Rotary for Single {
     ghost height = { λ _. single_height };
 
+    #[tactic(auto, using(crate::proofs::Steps::single_steps))]
     fn step_law(&self) {}
 }
