@@ -112,4 +112,17 @@ mod tests {
         }
         Ok(())
     }
+
+    #[test]
+    fn what_is_made_of_a_line(rt: HostRuntime) -> Result<(), Fail> {
+        let line = data_line(&rt, 6, "5 2".to_string(rt.alloc()).map_err(Error::from)).ok_or(
+            "it bears data",
+        )??;
+        assert_eq!(rt; line.number, 7);
+        assert_eq!(rt; line.reported(&rt, Ok::<u8, &str>(3))?, Some(3));
+        assert_eq!(rt; line.reported(&rt, Err::<u8, &str>("at fault"))?, None);
+        assert_eq!(rt; line.reported(&Closed, Ok::<u8, &str>(3))?, Some(3));
+        assert!(rt; line.reported(&Closed, Err::<u8, &str>("at fault")).is_err());
+        Ok(())
+    }
 }

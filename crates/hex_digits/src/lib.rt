@@ -37,8 +37,8 @@ impl<T: Drop> From<AllocFailed<T>> for HexFault {
     }
 }
 
-// The value of a digit. By ranges of bytes: the library's `to_digit` goes from a char to a u32, and both would have to be
-// converted here.
+// The value of a digit. By ranges of bytes: the library's `to_digit` goes from a char to a u32, and
+// both would have to be converted here.
 fn digit(c: u8) -> Option<u8>
     ensures { result ≡ digit_value c }
 {
