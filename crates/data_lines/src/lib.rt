@@ -115,9 +115,8 @@ mod tests {
 
     #[test]
     fn what_is_made_of_a_line(rt: HostRuntime) -> Result<(), Fail> {
-        let line = data_line(&rt, 6, "5 2".to_string(rt.alloc()).map_err(Error::from)).ok_or(
-            "it bears data",
-        )??;
+        let text = "5 2".to_string(rt.alloc())?;
+        let line = data_line(&rt, 6, Ok(text)).ok_or("it bears data")??;
         assert_eq!(rt; line.number, 7);
         assert_eq!(rt; line.reported(&rt, Ok::<u8, &str>(3))?, Some(3));
         assert_eq!(rt; line.reported(&rt, Err::<u8, &str>("at fault"))?, None);
