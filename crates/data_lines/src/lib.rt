@@ -121,7 +121,10 @@ mod tests {
         assert_eq!(rt; line.reported(&rt, Ok::<u8, &str>(3))?, Some(3));
         assert_eq!(rt; line.reported(&rt, Err::<u8, &str>("at fault"))?, None);
         assert_eq!(rt; line.reported(&Closed, Ok::<u8, &str>(3))?, Some(3));
-        assert!(rt; line.reported(&Closed, Err::<u8, &str>("at fault")).is_err());
+        match line.reported(&Closed, Err::<u8, &str>("at fault")) {
+            Err(e) => assert_eq!(rt; e.kind(), ErrorKind::BrokenPipe),
+            Ok(_) => return Err(Fail::new("the failure to report is handed on")),
+        }
         Ok(())
     }
 }
