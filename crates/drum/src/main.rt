@@ -4,7 +4,7 @@
 use anyhow::Context;
 use counter::{Counter, FullRange};
 use data_lines::data_line;
-use encoder::{Evaluation, PickedEvaluation, Quadruple};
+use encoder::{Evaluation, Quadruple};
 use std::io::{BufRead, BufReader};
 use winding::{Wheel, Winding, read_wheel, wind_line};
 
@@ -16,7 +16,7 @@ fn run(rt: &HostRuntime) -> anyhow::Result<()> {
     let endless = FullRange::new(0, false);
     let mut winding = Winding::new(Quadruple, endless);
     let wheel = wind_all(rt, &mut winding)?;
-    let bill = winding.bill(&wheel, PickedEvaluation::Quadruple);
+    let bill = winding.bill_by_quadruple(&wheel);
     println!(rt; "{bill}")?;
     Ok(())
 }
@@ -30,10 +30,12 @@ fn wind_all<E: Evaluation, C: Counter>(
         .lines(rt.alloc())
         .enumerate()
         .filter_map(|(index, line)| data_line(rt, index, line));
-    let head = lines.next().context("the capture is empty")??;
-    let wheel = head
-        .reported(rt, read_wheel(head.text.as_str()))?
-        .context("the capture does not begin with a wheel")?;
+    // The wheel's line is let go before the samples are read.
+    let wheel = {
+        let head = lines.next().context("the capture is empty")??;
+        head.reported(rt, read_wheel(head.text.as_str()))?
+            .context("the capture does not begin with a wheel")?
+    };
     for line in lines {
         let line = line?;
         line.reported(rt, wind_line(winding, line.text.as_str()))?;

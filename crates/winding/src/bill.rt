@@ -2,12 +2,13 @@
 ghost use Rattle.std.specs.Prelude.{◌≡◌, ◌/◌, ◌^◌, ◌<◌, pos, ◌*ℤ◌, Some};
 ghost use Rattle.winding.specs.Bill.{pulses_per_turn, evaluation_of, millimetres, bill_of, thousandths_text, tally_text, bill_text};
 ghost use Rattle.winding.specs.Winding.{sums_of};
+ghost use Rattle.encoder.specs.declared.picked.PickedEvaluation.TheVariants as picked;
 
 use crate::tally::Tally;
 use crate::wheel::Wheel;
 use crate::winding::Winding;
 use counter::Counter;
-use encoder::{Evaluation, PickedEvaluation, Staged};
+use encoder::{Evaluation, PickedEvaluation, Quadruple, Staged};
 use std::fmt;
 
 // A number of thousandths, written with the point: millimetres as metres, milliseconds as seconds.
@@ -83,6 +84,15 @@ impl<E: Evaluation, C: Counter> Winding<E, C> {
             length: wheel.length(reading, evaluation),
             time: Thousandths((tally.elapsed / 1000) as i64),
         }
+    }
+}
+
+impl<C: Counter> Winding<Quadruple, C> {
+    // The bill of a winding through quadruple evaluation: its length goes by four pulses a line.
+    pub fn bill_by_quadruple(&self, wheel: &Wheel) -> Bill
+        ensures { result ≡ bill_of wheel.now picked.Quadruple self.now.tally (C.Counter.means self.now.counter).reading }
+    {
+        self.bill(wheel, PickedEvaluation::Quadruple)
     }
 }
 
