@@ -101,7 +101,7 @@ fits_by (negsuc n) l h = record { sfits = omega (arith, ints) }
 within_fits : (m : Mode) (d : MainDirection) (end load value : ℤ) → not (end_fits end) ≡ false → not (accepts (row m d end load) value) ≡ false → SFits w32 value
 within_fits m d end load value e w = fits_by value (grind (arith, ints)) (grind (arith, ints))
 
-kept_numbers : (c : Choices) → keeps c ≡ true → Numbers c
+pub kept_numbers : (c : Choices) → keeps c ≡ true → Numbers c
 kept_numbers c kept =
     let right = kept_right c kept in
     let end : not (end_fits c.end) ≡ false = right.0.0 in
@@ -112,7 +112,7 @@ kept_numbers c kept =
 all_three : (a b c : Bool) → not a ≡ false → not b ≡ false → not c ≡ false → (a && (b && c)) ≡ true
 all_three a b c x y z = search rules
 
-kept_row : (c : Choices) → keeps c ≡ true → row_fits c.mode c.direction c.end c.load ≡ true
+pub kept_row : (c : Choices) → keeps c ≡ true → row_fits c.mode c.direction c.end c.load ≡ true
 kept_row c kept =
     let right = kept_right c kept in
     all_three (has_row c.mode c.direction) (end_fits c.end) (within c c.load) right.1.0 right.0.0 right.1.1.0
